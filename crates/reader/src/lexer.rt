@@ -1,15 +1,16 @@
 // The manifest's bytes under a cursor: classes of bytes, tokens, comments and the declaration.
 ghost use mathlib.Core.Path.{_≡_};
-ghost use mathlib.Core.Bool.{Bool, true, false, cond};
+ghost use mathlib.Core.Bool.{Bool, true, false, _&&_};
 ghost use Prim.Native.Nat.{ℕ, _+_, _-_, _<_, _≤_, max};
 ghost use lib.Chars.{codes};
+ghost use lib.Dec.{eqb, leb};
 ghost use lib.ListN.{length, take, drop, getD};
 ghost use Rattle.std.specs.Options.{Cases as BySome};
 ghost use Rattle.std.specs.shelf.Lists.{leading};
 ghost use Rattle.tables.specs.Zero.{span};
 ghost use Rattle.tables.specs.declared.span.Span.{Span as Part};
 ghost use Rattle.reader.specs.Bytes.{blank, begins, goes, quotes, visible, ascii, textual, plain};
-ghost use Rattle.reader.specs.Machine.{Document, State, dashes as dashed, declaration, outside, comment, sign, tag, text, opened, valued, nothing, reads, from as becomes};
+ghost use Rattle.reader.specs.Machine.{Document, State, dashes as dashed, declaration, outside, comment, sign, value, tag, text, opened, valued, nothing, reads, from as becomes};
 ghost use Rattle.reader.specs.Outcomes.{went};
 use crate::fault::ReadFault;
 use crate::fault::ReadRefusal;
@@ -122,6 +123,7 @@ impl Class for TextByte as TextByteClass {
 }
 
 // The bytes of a value between its quotes.
+#[derive(Drop)]
 struct ValueByte {
     quote: u8,
 }
@@ -246,7 +248,7 @@ impl<'a> Reader<'a> {
         self.expect(b"--")?;
         let mut dashes = 0;
         while let Some(b) = self.peek() {
-            if b == b'>' && dashes >= 2 {
+            if ends_comment(dashes, b) {
                 self.advance();
                 return Ok(());
             }
@@ -267,7 +269,7 @@ impl<'a> Reader<'a> {
         self.expect(b"xml")?;
         let mut question = false;
         while let Some(b) = self.peek() {
-            if question && b == b'>' {
+            if ends_declaration(question, b) {
                 self.advance();
                 return Ok(());
             }
@@ -276,6 +278,65 @@ impl<'a> Reader<'a> {
             }
             question = b == b'?';
             self.advance();
+        }
+        Err(self.refuse(ReadRefusal::Grammar))
+    }
+
+    // What stands between an attribute's name and its value: the cursor goes behind the quote.
+    fn opening(&mut self) -> Result<u8, ReadFault>
+        ensures src { λ _. ⌜ now (now (self .exit) .src) ≡ now (now (self .entry) .src) ⌝ }
+        ensures further { λ _. ⌜ now (self .entry) .pos ≤ now (self .exit) .pos ⌝ }
+        ensures goes { λ r. ⌜ ((E A : ℕ) (d : Document) (e a : Part) → becomes (now (now (self .entry) .src)) E A (sign d e a) (now (self .entry) .pos) ≡ went r (λ q. becomes (now (now (self .entry) .src)) E A (value d e a (now (self .exit) .pos) q) (now (self .exit) .pos))) ⌝ }
+    {
+        self.token(&Blank);
+        self.expect(b"=")?;
+        self.token(&Blank);
+        let Some(quote) = self.peek() else {
+            return Err(self.refuse(ReadRefusal::Grammar));
+        };
+        if !is_quote(quote) {
+            return Err(self.refuse(ReadRefusal::Grammar));
+        }
+        self.advance();
+        Ok(quote)
+    }
+
+    // The value behind an attribute's name: the cursor goes behind its last quote.
+    fn value(&mut self) -> Result<Token<'a>, ReadFault>
+        ensures src { λ _. ⌜ now (now (self .exit) .src) ≡ now (now (self .entry) .src) ⌝ }
+        ensures further { λ _. ⌜ now (self .entry) .pos ≤ now (self .exit) .pos ⌝ }
+        ensures goes { λ r. ⌜ ((E A : ℕ) (d : Document) (e a : Part) → becomes (now (now (self .entry) .src)) E A (sign d e a) (now (self .entry) .pos) ≡ went r (λ v. becomes (now (now (self .entry) .src)) E A (tag (valued d a (span (v .at) (length (now (v .text))))) e false) (now (self .exit) .pos))) ⌝ }
+    {
+        let quote = self.opening()?;
+        let value = self.token(&ValueByte { quote });
+        let Some(b) = self.peek() else {
+            return Err(self.refuse(ReadRefusal::Grammar));
+        };
+        if b == quote {
+            self.advance();
+            return Ok(value);
+        }
+        if b == b'&' {
+            return Err(self.refuse(ReadRefusal::Ampersand));
+        }
+        Err(self.refuse(ReadRefusal::Grammar))
+    }
+
+    // The text behind a start tag: the cursor goes to the '<' behind it.
+    fn text(&mut self) -> Result<Token<'a>, ReadFault>
+        ensures src { λ _. ⌜ now (now (self .exit) .src) ≡ now (now (self .entry) .src) ⌝ }
+        ensures further { λ _. ⌜ now (self .entry) .pos ≤ now (self .exit) .pos ⌝ }
+        ensures goes { λ r. ⌜ ((E A : ℕ) (d : Document) (e : Part) → becomes (now (now (self .entry) .src)) E A (text d e (now (self .entry) .pos)) (now (self .entry) .pos) ≡ went r (λ t. becomes (now (now (self .entry) .src)) E A (outside (opened d e (span (t .at) (length (now (t .text)))))) (now (self .exit) .pos))) ⌝ }
+    {
+        let text = self.token(&TextByte);
+        let Some(b) = self.peek() else {
+            return Err(self.refuse(ReadRefusal::Grammar));
+        };
+        if b == b'<' {
+            return Ok(text);
+        }
+        if b == b'&' {
+            return Err(self.refuse(ReadRefusal::Ampersand));
         }
         Err(self.refuse(ReadRefusal::Grammar))
     }
@@ -295,4 +356,18 @@ fn dashes_with(dashes: u8, b: u8) -> u8
         return 0;
     }
     if dashes == 0 { 1 } else { 2 }
+}
+
+// Whether the byte ends a comment behind so many '-'.
+fn ends_comment(dashes: u8, b: u8) -> bool
+    ensures { λ r. ⌜ r ≡ (leb 2 dashes && eqb b 62) ⌝ }
+{
+    dashes >= 2 && b == b'>'
+}
+
+// Whether the byte ends the declaration, where the one before was '?' or not.
+fn ends_declaration(question: bool, b: u8) -> bool
+    ensures { λ r. ⌜ r ≡ (question && eqb b 62) ⌝ }
+{
+    question && b == b'>'
 }
