@@ -1,3 +1,5 @@
 pub mod Runs
 pub mod Lexing
 pub mod Tags
+pub mod Names
+pub mod Keeping

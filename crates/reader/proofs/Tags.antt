@@ -70,7 +70,7 @@ module _ (m : List ℕ) (E A : ℕ) where
         let D = opened d e (span at (end - at)) in
         to-text
         ∙ from-to m E A (text d e at) (angle D) end h (cond-false _ _ _ (stops h) ∙ cond-true _ _ _ (eq-eqb _ 60 y))
-        ∙ sym (from-to m E A (outside D) (angle D) end h (cond-true _ _ _ (inside-more (d .depth)) ∙ cond-false _ _ _ (stops h) ∙ cond-true _ _ _ (eq-eqb _ 60 y)))
+        ∙ sym (from-to m E A (outside D) (angle D) end h (cond-false _ _ _ (cond-true _ _ _ (inside-more (d .depth)) ∙ stops h) ∙ cond-true _ _ _ (eq-eqb _ 60 y)))
 
     pub text-amp : end < length m → (getD m end 0 ≡ 60 → ⊥) → getD m end 0 ≡ 38 → from m E A (text d e at) at ≡ refused Ampersand end
     text-amp h y w = to-text ∙ to-wrong m E A (text d e at) Ampersand end end h (cond-false _ _ _ (stops h) ∙ cond-false _ _ _ (ne-eqb _ 60 y) ∙ cond-true _ _ _ (eq-eqb _ 38 w))

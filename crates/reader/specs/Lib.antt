@@ -1,4 +1,5 @@
 pub mod Bytes
-pub mod Numbers
 pub mod Machine
+pub mod Numbers
 pub mod Outcomes
+pub mod Tags

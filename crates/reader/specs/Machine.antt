@@ -105,7 +105,9 @@ pub data State : Type 0 where
 
 -- what comes of reading
 pub data Outcome : Type 0 where
-  accepted : Document → Outcome
+  -- the rows of the elements and of the attributes
+  accepted : List Element → List Attribute → Outcome
+  -- refused, at that byte
   refused : ReadRefusal → ℕ → Outcome
 
 -- the bytes of ws have to follow before the state is s
@@ -132,12 +134,17 @@ step-sign d e a at b = cond (blank b) (sign d e a) (cond (eqb b 61) (quote d e a
 abbrev pub step-closed : Document → ℕ → ℕ → State
 step-closed d at b = cond (blank b) (closed d) (cond (eqb b 62) (outside (shut d)) (wrong Grammar at))
 
--- a byte of a text, inside the root: s is the state behind a '<'
-abbrev pub step-text : State → State → ℕ → ℕ → State
-step-text s stay at b = cond (textual b) stay (cond (eqb b 60) s (cond (eqb b 38) (wrong Ampersand at) (wrong Grammar at)))
+-- a byte of the text of e, which begins at t
+abbrev pub step-text : Document → Span → ℕ → ℕ → ℕ → State
+step-text d e t at b = cond (textual b) (text d e t) (cond (eqb b 60) (angle (opened d e (span t (at - t)))) (cond (eqb b 38) (wrong Ampersand at) (wrong Grammar at)))
 
+-- a byte that passes between tags and comments: one of a text inside the root, else a blank
+abbrev pub passes : Bool → ℕ → Bool
+passes within b = cond within (textual b) (blank b)
+
+-- a byte between tags and comments: s is the state behind a '<'
 abbrev pub step-outside : Document → State → ℕ → ℕ → State
-step-outside d s at b = cond (inside d) (step-text s (outside d) at b) (cond (blank b) (outside d) (cond (eqb b 60) s (wrong Grammar at)))
+step-outside d s at b = cond (passes (inside d) b) (outside d) (cond (eqb b 60) s (cond (inside d && eqb b 38) (wrong Ampersand at) (wrong Grammar at)))
 
 abbrev pub step-angle : Document → ℕ → ℕ → State
 step-angle d at b = cond (eqb b 33) (reads (codes "--") (comment 0 d)) (cond (eqb b 47) (cond (inside d) (close d) (wrong Grammar at)) (cond (begins b && (inside d || rootless d)) (naming d at) (wrong Grammar at)))
@@ -172,7 +179,7 @@ module _ (m : List ℕ) (E A : ℕ) where
   step (sign d e a) at b = step-sign d e a at b
   step (quote d e a) at b = cond (blank b) (quote d e a) (cond (quotes b) (value d e a (at + 1) b) (wrong Grammar at))
   step (value d e a v q) at b = cond (plain q b) (value d e a v q) (cond (eqb b q) (tag (valued d a (span v (at - v))) e false) (cond (eqb b 38) (wrong Ampersand at) (wrong Grammar at)))
-  step (text d e t) at b = step-text (angle (opened d e (span t (at - t)))) (text d e t) at b
+  step (text d e t) at b = step-text d e t at b
   step (close d) at b = cond (begins b) (closing d at) (wrong Grammar at)
   step (closing d p) at b = cond (goes b) (closing d p) (matched wrong m d p at (step-closed d at b))
   step (closed d) at b = step-closed d at b
@@ -183,7 +190,7 @@ module _ (m : List ℕ) (E A : ℕ) where
   ended start at = refused Grammar at
   ended begun at = refused Grammar at
   ended (declaration q) at = refused Grammar at
-  ended (outside d) at = cond (finished d) (accepted d) (refused Grammar at)
+  ended (outside d) at = cond (finished d) (accepted (d .elements) (d .attributes)) (refused Grammar at)
   ended (angle d) at = refused Grammar at
   ended (word w ws s) at = refused Grammar at
   ended (comment k d) at = refused Grammar at

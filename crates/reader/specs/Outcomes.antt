@@ -13,16 +13,16 @@ use Rattle.reader.specs.Machine.{Outcome, accepted, refused}
 use Rattle.reader.specs.declared.fault.ReadFault.{ReadFault}
 
 abbrev pub answer : Outcome → Result (Unit {0}) ReadFault
-answer (accepted d) = Ok tt
+answer (accepted es xs) = Ok tt
 answer (refused k p) = Err (record { refusal = k; byte = p })
 
 -- the rows that are left: none after a refusal
 abbrev pub elementsOf : Outcome → List Element
-elementsOf (accepted d) = d .elements
+elementsOf (accepted es xs) = es
 elementsOf (refused k p) = []
 
 abbrev pub attributesOf : Outcome → List Attribute
-attributesOf (accepted d) = d .attributes
+attributesOf (accepted es xs) = xs
 attributesOf (refused k p) = []
 
 -- reading went on as r says: to what then came, or to a refusal

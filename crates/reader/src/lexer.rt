@@ -10,11 +10,13 @@ ghost use Rattle.std.specs.shelf.Lists.{leading};
 ghost use Rattle.tables.specs.Zero.{span};
 ghost use Rattle.tables.specs.declared.span.Span.{Span as Part};
 ghost use Rattle.reader.specs.Bytes.{blank, begins, goes, quotes, visible, ascii, textual, plain};
-ghost use Rattle.reader.specs.Machine.{Document, State, dashes as dashed, declaration, outside, comment, sign, value, tag, text, opened, valued, nothing, reads, from as becomes};
+ghost use Rattle.reader.specs.Machine.{Document, State, dashes as dashed, passes, declaration, outside, comment, sign, value, tag, text, opened, valued, nothing, reads, from as becomes};
 ghost use Rattle.reader.specs.Outcomes.{went};
 use crate::fault::ReadFault;
 use crate::fault::ReadRefusal;
 use tables::Span;
+
+pub mod markup;
 
 fn is_blank(b: u8) -> bool
     ensures { λ r. ⌜ r ≡ blank b ⌝ }
@@ -119,6 +121,20 @@ impl Class for TextByte as TextByteClass {
 
     fn has(&self, b: u8) -> bool {
         is_text(b)
+    }
+}
+
+// The bytes that pass between tags and comments, inside the root or not.
+#[derive(Drop)]
+struct LooseByte {
+    inside: bool,
+}
+
+impl Class for LooseByte as LooseByteClass {
+    ghost holds = { λ l. passes (l .inside) };
+
+    fn has(&self, b: u8) -> bool {
+        if self.inside { is_text(b) } else { is_blank(b) }
     }
 }
 
