@@ -1,19 +1,33 @@
 -- The bytes of tags, values and texts.
 use mathlib.Core.Path.{_≡_, refl, sym, ap, _∙_}
 use mathlib.Core.List.{List, [], _∷_}
-use mathlib.Core.Bool.{Bool, true, false, cond, _&&_}
+use mathlib.Core.Logic.{⊎-elim}
+use mathlib.Core.Bool.{Bool, true, false, cond, _&&_, _||_}
 use Prim.Native.Nat.{ℕ, _+_, _-_, _≤_, _<_}
 use native.Mathlib.Omega.{arith}
 use lib.Dec.{eqb, ltb}
 use lib.ListN.{length, drop, getD}
 use Rattle.std.specs.shelf.Lists.{leading}
-use Rattle.std.proofs.shelf.Tests.{eq-eqb, ne-eqb, lt-ltb, cond-true, cond-false}
+use Rattle.std.proofs.shelf.Sums.{leading-drop-no, leading-drop-all}
+use Rattle.std.proofs.shelf.Tests.{eq-eqb, ne-eqb, lt-ltb, le-ltb, cases-lt, cases-bool, cond-true, cond-false}
 use Rattle.tables.specs.Zero.{span}
 use Rattle.tables.specs.declared.span.Span.{Span}
-use Rattle.reader.specs.Bytes.{blank, goes, quotes, textual, plain}
-use Rattle.reader.specs.Machine.{Document, State, word, sign, quote, value, tag, text, outside, angle, slash, closed, wrong, Outcome, refused, valued, opened, emptied, shut, from}
+use Rattle.reader.specs.Bytes.{blank, begins, goes, from-to as among, quotes, textual, plain}
+use Rattle.reader.specs.Machine.{Document, State, word, attribute, sign, quote, value, tag, text, outside, angle, slash, closed, wrong, Outcome, refused, valued, opened, emptied, shut, step, from}
 use Rattle.reader.specs.declared.fault.ReadRefusal.the-variants.{Grammar, Ampersand}
 use Rattle.reader.proofs.Runs.{from-end, from-to, to-wrong, from-same, from-stays}
+
+-- a run that is not empty begins with a byte of the class
+pub leading-some : (p : ℕ → Bool) (m : List ℕ) (at : ℕ) → 0 < leading p (drop at m) → (at < length m) × (p (getD m at 0) ≡ true)
+leading-some p m at h =
+    ⊎-elim
+    (λ lt. (lt, ⊎-elim (λ y. y) (λ n. absurd (omega (arith, leading-drop-no p m at 0 lt n))) (cases-bool (p (getD m at 0)))))
+    (λ le. absurd (omega (arith, leading-drop-all p m at le)))
+    (cases-lt at (length m))
+
+-- what begins a name goes on with it
+pub goes-on : (b : ℕ) → begins b ≡ true → goes b ≡ true
+goes-on b h = ap (λ t. t || among 48 57 b || eqb b 45 || eqb b 46) h
 
 -- an element that was opened is open
 inside-more : (k : ℕ) → ltb 0 (k + 1) ≡ true
@@ -39,6 +53,52 @@ module _ (m : List ℕ) (E A : ℕ) where
 
     pub quote-next : end < length m → quotes (getD m end 0) ≡ true → from m E A (quote d e a) at ≡ from m E A (value d e a (end + 1) (getD m end 0)) (end + 1)
     quote-next h q = to-quote ∙ from-to m E A (quote d e a) (value d e a (end + 1) (getD m end 0)) end h (cond-false _ _ _ (stops h) ∙ cond-true _ _ _ q)
+
+  -- blanks inside a start tag
+  pub to-tag : (d : Document) (e : Span) (at end : ℕ) → end ≡ at + leading blank (drop at m) → from m E A (tag d e false) at ≡ from m E A (tag d e (ltb 0 (end - at))) end
+  to-tag d e at end b = ⊎-elim none some (cases-lt at end)
+    where
+      none : at < end → from m E A (tag d e false) at ≡ from m E A (tag d e (ltb 0 (end - at))) end
+      none h =
+          let lt : at < length m = leading-some blank m at (omega arith) .0 in
+          let is : blank (getD m at 0) ≡ true = leading-some blank m at (omega arith) .1 in
+          from-to m E A (tag d e false) (tag d e true) at lt (cond-true _ _ _ is)
+          ∙ sym (from-to m E A (tag d e true) (tag d e true) at lt (cond-true _ _ _ is))
+          ∙ from-stays m E A (tag d e true) blank (λ i x y. cond-true _ _ _ y) at end b
+          ∙ ap (λ t. from m E A (tag d e t) end) (sym (lt-ltb 0 (end - at) (omega arith)))
+
+      some : end ≤ at → from m E A (tag d e false) at ≡ from m E A (tag d e (ltb 0 (end - at))) end
+      some h =
+          let same : at ≡ end = omega arith in
+          ap (λ k. from m E A (tag d e false) k) same
+          ∙ ap (λ t. from m E A (tag d e t) end) (sym (le-ltb 0 (end - at) (omega arith)))
+
+  -- a byte of a start tag that is no blank
+  module _ (d : Document) (e : Span) (gap : Bool) (at : ℕ) where
+    pub tag-ends : length m ≤ at → from m E A (tag d e gap) at ≡ refused Grammar at
+    tag-ends h = from-end m E A (tag d e gap) at h
+
+    module _ (h : at < length m) (nb : blank (getD m at 0) ≡ false) where
+      pub tag-open : getD m at 0 ≡ 62 → from m E A (tag d e gap) at ≡ from m E A (text d e (at + 1)) (at + 1)
+      tag-open y = from-to m E A (tag d e gap) (text d e (at + 1)) at h (cond-false _ _ _ nb ∙ cond-true _ _ _ (eq-eqb _ 62 y))
+
+      module _ (n : getD m at 0 ≡ 62 → ⊥) where
+        pub tag-slash : getD m at 0 ≡ 47 → from m E A (tag d e gap) at ≡ from m E A (word 62 [] (outside (emptied d e))) (at + 1)
+        tag-slash y =
+            from-to m E A (tag d e gap) (slash d e) at h (cond-false _ _ _ nb ∙ cond-false _ _ _ (ne-eqb _ 62 n) ∙ cond-true _ _ _ (eq-eqb _ 47 y))
+            ∙ from-same m E A (slash d e) (word 62 [] (outside (emptied d e))) (at + 1) (λ lt. refl) refl
+
+        module _ (k : getD m at 0 ≡ 47 → ⊥) where
+          tag-last : step m E A (tag d e gap) at (getD m at 0) ≡ cond (gap && begins (getD m at 0)) (attribute d e at) (wrong Grammar at)
+          tag-last = cond-false _ _ _ nb ∙ cond-false _ _ _ (ne-eqb _ 62 n) ∙ cond-false _ _ _ (ne-eqb _ 47 k)
+
+          pub tag-other : (gap && begins (getD m at 0)) ≡ false → from m E A (tag d e gap) at ≡ refused Grammar at
+          tag-other f = to-wrong m E A (tag d e gap) Grammar at at h (tag-last ∙ cond-false _ _ _ f)
+
+          pub tag-attribute : (gap && begins (getD m at 0)) ≡ true → begins (getD m at 0) ≡ true → from m E A (tag d e gap) at ≡ from m E A (attribute d e at) at
+          tag-attribute f y =
+              from-to m E A (tag d e gap) (attribute d e at) at h (tag-last ∙ cond-true _ _ _ f)
+              ∙ sym (from-to m E A (attribute d e at) (attribute d e at) at h (cond-true _ _ _ (goes-on (getD m at 0) y)))
 
   -- the bytes of a value
   module _ (d : Document) (e a : Span) (q at end : ℕ) (b : end ≡ at + leading (plain q) (drop at m)) (stops : end < length m → plain q (getD m end 0) ≡ false) where

@@ -15,7 +15,7 @@ ghost use Rattle.tables.specs.declared.span.Span.{Span as Part};
 ghost use Rattle.reader.specs.Bytes.{begins};
 ghost use Rattle.reader.specs.Machine.{Document, document, inside, finished, tag, attribute, naming, angle, close, outside, start, nothing, accepted, twice, from as becomes};
 ghost use Rattle.reader.specs.Outcomes.{went, Kept};
-ghost use Rattle.reader.specs.Tags.{behind};
+ghost use Rattle.reader.specs.Tags.{behind, leads};
 use crate::fault::ReadFault;
 use crate::fault::ReadRefusal;
 use super::Blank;
@@ -82,5 +82,55 @@ fn read_attribute(reader: &mut Reader, element: usize, attributes: &mut Table<At
     match attributes.push(row) {
         Ok(()) => Ok(()),
         Err(_) => Err(ReadFault { refusal: ReadRefusal::AttributesFull, byte: name.at }),
+    }
+}
+
+// What stands next in a start tag: the cursor goes behind it.
+fn tag_part(reader: &mut Reader, element: usize, attributes: &mut Table<Attribute>) -> Result<TagPart, ReadFault>
+    ensures src { λ _. ⌜ now (now (reader .exit) .src) ≡ now (now (reader .entry) .src) ⌝ }
+    ensures further { λ r. ⌜ Cases r (λ _. now (reader .entry) .pos < now (reader .exit) .pos) (λ _. now (reader .entry) .pos ≤ now (reader .exit) .pos) ⌝ }
+    ensures kept { λ _. ⌜ Kept (now (attributes .entry)) (now (attributes .exit)) ⌝ }
+    ensures goes { λ r. ⌜ ((E : ℕ) (es : List Row) (o k : ℕ) (e : Part) → length es ≡ element →
+        becomes (now (now (reader .entry) .src)) E (capacity (now (attributes .entry))) (tag (document es (held (now (attributes .entry))) o k) e false) (now (reader .entry) .pos)
+        ≡ went r (λ part. becomes (now (now (reader .entry) .src)) E (capacity (now (attributes .entry))) (behind part (document es (held (now (attributes .exit))) o k) e (now (reader .exit) .pos)) (now (reader .exit) .pos))) ⌝ }
+{
+    let gap = reader.token(&Blank);
+    let Some(b) = reader.peek() else {
+        return Err(reader.refuse(ReadRefusal::Grammar));
+    };
+    if b == b'>' {
+        reader.advance();
+        return Ok(TagPart::Open);
+    }
+    if b == b'/' {
+        reader.advance();
+        reader.expect(b">")?;
+        return Ok(TagPart::Empty);
+    }
+    if gap.text.len() == 0 {
+        return Err(reader.refuse(ReadRefusal::Grammar));
+    }
+    if !is_first(b) {
+        return Err(reader.refuse(ReadRefusal::Grammar));
+    }
+    read_attribute(reader, element, attributes)?;
+    Ok(TagPart::Attribute)
+}
+
+// The rest of a start tag behind its name, and whether it ends in '/>'.
+fn rest_of_tag(reader: &mut Reader, element: usize, attributes: &mut Table<Attribute>) -> Result<bool, ReadFault>
+    ensures src { λ _. ⌜ now (now (reader .exit) .src) ≡ now (now (reader .entry) .src) ⌝ }
+    ensures further { λ _. ⌜ now (reader .entry) .pos ≤ now (reader .exit) .pos ⌝ }
+    ensures kept { λ _. ⌜ Kept (now (attributes .entry)) (now (attributes .exit)) ⌝ }
+    ensures goes { λ r. ⌜ ((E : ℕ) (es : List Row) (o k : ℕ) (e : Part) → length es ≡ element →
+        becomes (now (now (reader .entry) .src)) E (capacity (now (attributes .entry))) (tag (document es (held (now (attributes .entry))) o k) e false) (now (reader .entry) .pos)
+        ≡ went r (λ empty. becomes (now (now (reader .entry) .src)) E (capacity (now (attributes .entry))) (leads empty (document es (held (now (attributes .exit))) o k) e (now (reader .exit) .pos)) (now (reader .exit) .pos))) ⌝ }
+{
+    'parts: loop {
+        match tag_part(reader, element, attributes)? {
+            TagPart::Attribute => {}
+            TagPart::Open => return Ok(false),
+            TagPart::Empty => return Ok(true),
+        }
     }
 }
