@@ -3,3 +3,5 @@ pub mod Lexing
 pub mod Tags
 pub mod Names
 pub mod Keeping
+pub mod Outside
+pub mod Elements

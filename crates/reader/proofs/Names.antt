@@ -13,6 +13,7 @@ use Rattle.std.proofs.shelf.Tests.{cases-lt, cond-true, cond-false}
 use Rattle.tables.specs.Parts.{part}
 use Rattle.tables.specs.Zero.{span, no-element, no-attribute}
 use Rattle.tables.specs.declared.manifest.Attribute.{Attribute}
+use Rattle.tables.specs.declared.manifest.Element.{Element}
 use Rattle.tables.specs.declared.span.Span.{Span}
 use Rattle.reader.specs.Bytes.{goes}
 use Rattle.reader.specs.Machine.{Document, State, naming, attribute, sign, tag, closing, closed, wrong, refused, twice, step, ended, from}
@@ -28,7 +29,10 @@ module _ (m : List ℕ) (e : ℕ) (n : List ℕ) (rows : List Attribute) (i : �
   pub twice-on : (eqb (getD rows i no-attribute .element) e && sameBytes (part m (getD rows i no-attribute .name)) n) ≡ false → twice m e n (drop i rows) ≡ twice m e n (drop (i + 1) rows)
   twice-on t = at-drop-more (twice m e n) rows i no-attribute h ∙ ap (λ b. b || twice m e n (drop (i + 1) rows)) t
 
--- the same question, asked of what is equal
+-- the same questions, asked of what is equal
+pub names-same : (m m′ : List ℕ) (es es′ : List Element) (i : ℕ) (x : Element) (a n n′ : List ℕ) (t : Bool) → m′ ≡ m → es′ ≡ es → x ≡ getD es′ i no-element → a ≡ part m′ (x .name) → n ≡ n′ → t ≡ sameBytes a n → sameBytes (part m (getD es i no-element .name)) n′ ≡ t
+names-same m m′ es es′ i x a n n′ t p q r s u h = cc
+
 pub twice-same : (m m′ n n′ : List ℕ) (e e′ : ℕ) (rows rows′ : List Attribute) (t : Bool) → m′ ≡ m → n′ ≡ n → e ≡ e′ → rows′ ≡ rows → t ≡ twice m′ e′ n′ rows′ → twice m e n rows ≡ t
 twice-same m m′ n n′ e e′ rows rows′ t p q r s h = cc
 

@@ -1,7 +1,7 @@
 // Tags and elements: the manifest's rows.
 ghost use mathlib.Core.Path.{_≡_};
 ghost use mathlib.Core.Bool.{true, false, cond, not, _&&_};
-ghost use mathlib.Core.List.{List, []};
+ghost use mathlib.Core.List.{List, [], _∷_, _++_};
 ghost use Prim.Native.Nat.{ℕ, _+_, _<_, _≤_};
 ghost use lib.Dec.{eqb, ltb};
 ghost use lib.ListN.{length, getD};
@@ -10,7 +10,8 @@ ghost use Rattle.std.specs.shelf.Text.{sameBytes};
 ghost use Rattle.tables.specs.Parts.{part};
 ghost use Rattle.tables.specs.Rows.{held, capacity};
 ghost use Rattle.tables.specs.Zero.{no-element};
-ghost use Rattle.tables.specs.declared.manifest.Element.{Element as Row};
+ghost use Rattle.tables.specs.declared.manifest.Attribute.{Attribute as AttributeOf};
+ghost use Rattle.tables.specs.declared.manifest.Element.{Element as ElementOf};
 ghost use Rattle.tables.specs.declared.span.Span.{Span as Part};
 ghost use Rattle.reader.specs.Bytes.{begins};
 ghost use Rattle.reader.specs.Machine.{Document, document, inside, finished, tag, attribute, naming, angle, close, outside, start, nothing, accepted, twice, from as becomes};
@@ -30,6 +31,7 @@ use tables::Attribute;
 use tables::AttributeRow;
 use tables::Element;
 use tables::ElementRow;
+use tables::Row;
 use tables::Span;
 use tables::Table;
 use tables::same;
@@ -41,6 +43,18 @@ enum TagPart {
     Open,
     Empty,
 }
+
+// How deep the reading stands: the row of the innermost open element, and how many are open.
+#[derive(Clone, Copy)]
+struct Nesting {
+    inner: usize,
+    depth: usize,
+}
+
+// An element may stand on the levels 1 to this.
+const LEVELS: usize = 16;
+
+const NO_TEXT: Span = Span { at: 0, len: 0 };
 
 // Whether the attribute is one of the element with the name.
 fn is_named(src: &[u8], row: &Attribute, element: usize, name: &[u8]) -> bool
@@ -66,7 +80,7 @@ fn read_attribute(reader: &mut Reader, element: usize, attributes: &mut Table<At
     ensures src { λ _. ⌜ now (now (reader .exit) .src) ≡ now (now (reader .entry) .src) ⌝ }
     ensures further { λ _. ⌜ now (reader .entry) .pos ≤ now (reader .exit) .pos ⌝ }
     ensures kept { λ _. ⌜ Kept (now (attributes .entry)) (now (attributes .exit)) ⌝ }
-    ensures goes { λ r. ⌜ ((E : ℕ) (es : List Row) (o k : ℕ) (e : Part) → length es ≡ element →
+    ensures goes { λ r. ⌜ ((E : ℕ) (es : List ElementOf) (o k : ℕ) (e : Part) → length es ≡ element →
         becomes (now (now (reader .entry) .src)) E (capacity (now (attributes .entry))) (attribute (document es (held (now (attributes .entry))) o k) e (now (reader .entry) .pos)) (now (reader .entry) .pos)
         ≡ went r (λ _. becomes (now (now (reader .entry) .src)) E (capacity (now (attributes .entry))) (tag (document es (held (now (attributes .exit))) o k) e false) (now (reader .exit) .pos))) ⌝ }
 {
@@ -90,7 +104,7 @@ fn tag_part(reader: &mut Reader, element: usize, attributes: &mut Table<Attribut
     ensures src { λ _. ⌜ now (now (reader .exit) .src) ≡ now (now (reader .entry) .src) ⌝ }
     ensures further { λ r. ⌜ Cases r (λ _. now (reader .entry) .pos < now (reader .exit) .pos) (λ _. now (reader .entry) .pos ≤ now (reader .exit) .pos) ⌝ }
     ensures kept { λ _. ⌜ Kept (now (attributes .entry)) (now (attributes .exit)) ⌝ }
-    ensures goes { λ r. ⌜ ((E : ℕ) (es : List Row) (o k : ℕ) (e : Part) → length es ≡ element →
+    ensures goes { λ r. ⌜ ((E : ℕ) (es : List ElementOf) (o k : ℕ) (e : Part) → length es ≡ element →
         becomes (now (now (reader .entry) .src)) E (capacity (now (attributes .entry))) (tag (document es (held (now (attributes .entry))) o k) e false) (now (reader .entry) .pos)
         ≡ went r (λ part. becomes (now (now (reader .entry) .src)) E (capacity (now (attributes .entry))) (behind part (document es (held (now (attributes .exit))) o k) e (now (reader .exit) .pos)) (now (reader .exit) .pos))) ⌝ }
 {
@@ -122,7 +136,7 @@ fn rest_of_tag(reader: &mut Reader, element: usize, attributes: &mut Table<Attri
     ensures src { λ _. ⌜ now (now (reader .exit) .src) ≡ now (now (reader .entry) .src) ⌝ }
     ensures further { λ _. ⌜ now (reader .entry) .pos ≤ now (reader .exit) .pos ⌝ }
     ensures kept { λ _. ⌜ Kept (now (attributes .entry)) (now (attributes .exit)) ⌝ }
-    ensures goes { λ r. ⌜ ((E : ℕ) (es : List Row) (o k : ℕ) (e : Part) → length es ≡ element →
+    ensures goes { λ r. ⌜ ((E : ℕ) (es : List ElementOf) (o k : ℕ) (e : Part) → length es ≡ element →
         becomes (now (now (reader .entry) .src)) E (capacity (now (attributes .entry))) (tag (document es (held (now (attributes .entry))) o k) e false) (now (reader .entry) .pos)
         ≡ went r (λ empty. becomes (now (now (reader .entry) .src)) E (capacity (now (attributes .entry))) (leads empty (document es (held (now (attributes .exit))) o k) e (now (reader .exit) .pos)) (now (reader .exit) .pos))) ⌝ }
 {
@@ -133,4 +147,82 @@ fn rest_of_tag(reader: &mut Reader, element: usize, attributes: &mut Table<Attri
             TagPart::Empty => return Ok(true),
         }
     }
+}
+
+// Takes the row of an element whose name begins behind the byte.
+fn add(elements: &mut Table<Element>, row: Element, byte: usize) -> Result<(), ReadFault>
+    ensures elements { λ _. ⌜ Kept (now (elements .entry)) (now (elements .exit)) ⌝ }
+    ensures answer { λ r. ⌜ Cases r
+        (λ _. held (now (elements .exit)) ≡ held (now (elements .entry)) ++ row ∷ [])
+        (λ _. capacity (now (elements .entry)) ≤ length (held (now (elements .entry)))) ⌝ }
+{
+    match elements.push(row) {
+        Ok(()) => Ok(()),
+        Err(_) => Err(ReadFault { refusal: ReadRefusal::ElementsFull, byte }),
+    }
+}
+
+// The element whose name begins at the cursor, up to its text's end.
+fn read_element(reader: &mut Reader, elements: &mut Table<Element>, attributes: &mut Table<Attribute>, nesting: &mut Nesting) -> Result<(), ReadFault>
+    ensures src { λ _. ⌜ now (now (reader .exit) .src) ≡ now (now (reader .entry) .src) ⌝ }
+    ensures further { λ _. ⌜ now (reader .entry) .pos ≤ now (reader .exit) .pos ⌝ }
+    ensures elements { λ _. ⌜ Kept (now (elements .entry)) (now (elements .exit)) ⌝ }
+    ensures attributes { λ _. ⌜ Kept (now (attributes .entry)) (now (attributes .exit)) ⌝ }
+    ensures goes { λ r. ⌜
+        becomes (now (now (reader .entry) .src)) (capacity (now (elements .entry))) (capacity (now (attributes .entry))) (naming (document (held (now (elements .entry))) (held (now (attributes .entry))) (now (nesting .entry) .inner) (now (nesting .entry) .depth)) (now (reader .entry) .pos)) (now (reader .entry) .pos)
+        ≡ went r (λ _. becomes (now (now (reader .entry) .src)) (capacity (now (elements .entry))) (capacity (now (attributes .entry))) (outside (document (held (now (elements .exit))) (held (now (attributes .exit))) (now (nesting .exit) .inner) (now (nesting .exit) .depth))) (now (reader .exit) .pos)) ⌝ }
+{
+    let name = reader.token(&NameByte);
+    let byte = name.at.saturating_sub(1);
+    if nesting.depth >= LEVELS {
+        return Err(ReadFault { refusal: ReadRefusal::TooDeep, byte });
+    }
+    if elements.is_full() {
+        return Err(ReadFault { refusal: ReadRefusal::ElementsFull, byte });
+    }
+    let row = elements.len();
+    let level = nesting.depth + 1;
+    let empty = rest_of_tag(reader, row, attributes)?;
+    if empty {
+        add(elements, Element { name: name.span(), parent: nesting.inner, level, text: NO_TEXT }, byte)?;
+        return Ok(());
+    }
+    let text = reader.text()?;
+    add(elements, Element { name: name.span(), parent: nesting.inner, level, text: text.span() }, byte)?;
+    nesting.inner = row;
+    nesting.depth = level;
+    Ok(())
+}
+
+// The row, the zero row where there is none.
+fn element_at(rows: &[Element], i: usize) -> Element
+    ensures { λ r. ⌜ r ≡ getD (now (rows .entry)) i no-element ⌝ }
+{
+    if i < rows.len() { rows[i] } else { Element::zeroed() }
+}
+
+// The closing tag behind its `</`.
+fn close_element(reader: &mut Reader, elements: &Table<Element>, nesting: &mut Nesting) -> Result<(), ReadFault>
+    ensures src { λ _. ⌜ now (now (reader .exit) .src) ≡ now (now (reader .entry) .src) ⌝ }
+    ensures further { λ _. ⌜ now (reader .entry) .pos ≤ now (reader .exit) .pos ⌝ }
+    ensures goes { λ r. ⌜ ((E A : ℕ) (xs : List AttributeOf) →
+        becomes (now (now (reader .entry) .src)) E A (close (document (held (now (elements .entry))) xs (now (nesting .entry) .inner) (now (nesting .entry) .depth))) (now (reader .entry) .pos)
+        ≡ went r (λ _. becomes (now (now (reader .entry) .src)) E A (outside (document (held (now (elements .entry))) xs (now (nesting .exit) .inner) (now (nesting .exit) .depth))) (now (reader .exit) .pos))) ⌝ }
+{
+    let Some(b) = reader.peek() else {
+        return Err(reader.refuse(ReadRefusal::Grammar));
+    };
+    if !is_first(b) {
+        return Err(reader.refuse(ReadRefusal::Grammar));
+    }
+    let name = reader.token(&NameByte);
+    let open = element_at(elements.rows(), nesting.inner);
+    if !same(open.name.part(reader.src), name.text) {
+        return Err(ReadFault { refusal: ReadRefusal::ClosingName, byte: name.at });
+    }
+    reader.token(&Blank);
+    reader.expect(b">")?;
+    nesting.inner = open.parent;
+    nesting.depth = nesting.depth.saturating_sub(1);
+    Ok(())
 }
