@@ -12,6 +12,9 @@ use Rattle.std.specs.shelf.Lists.{leading}
 use Rattle.std.proofs.shelf.Lists.{at-drop-more, at-drop-all, drop-drop as drops}
 use Rattle.std.proofs.shelf.Tests.{cases-lt}
 use Rattle.reader.specs.Machine.{State, wrong, Outcome, refused, step, ended, run, from}
+use Rattle.std.specs.declared.result.Result.{Result}
+use Rattle.reader.specs.Outcomes.{went}
+use Rattle.reader.specs.declared.fault.ReadFault.{ReadFault}
 use Rattle.reader.specs.declared.fault.ReadRefusal.{ReadRefusal}
 
 module _ (m : List ℕ) (E A : ℕ) where
@@ -69,3 +72,11 @@ module _ (m : List ℕ) (E A : ℕ) where
         run-stays (drop at m) at
         ∙ ap (λ l. run m E A s (at + leading p (drop at m)) l) (drops (leading p (drop at m)) at m)
         ∙ ap (λ k. run m E A s k (drop k m)) (sym e)
+
+-- the same bytes at the same place, told of another slice
+pub carry : {X : Type 0} (m m₁ : List ℕ) (E A : ℕ) (s : State) (p p₁ q : ℕ) (r : Result X ReadFault) (t : X → State) → p₁ ≡ p → m₁ ≡ m → from m₁ E A s p₁ ≡ went r (λ x. from m₁ E A (t x) q) → from m E A s p ≡ went r (λ x. from m E A (t x) q)
+carry m m₁ E A s p p₁ q r t at same h =
+    ap (λ i. from m E A s i) (sym at)
+    ∙ ap (λ l. from l E A s p₁) (sym same)
+    ∙ h
+    ∙ ap (λ l. went r (λ x. from l E A (t x) q)) same

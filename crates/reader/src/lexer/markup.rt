@@ -1,6 +1,6 @@
 // Tags and elements: the manifest's rows.
 ghost use mathlib.Core.Path.{_≡_};
-ghost use mathlib.Core.Bool.{true, false, cond, not, _&&_};
+ghost use mathlib.Core.Bool.{true, false, cond, not, _&&_, _||_};
 ghost use mathlib.Core.List.{List, [], _∷_, _++_};
 ghost use Prim.Native.Nat.{ℕ, _+_, _<_, _≤_};
 ghost use lib.Dec.{eqb, ltb};
@@ -16,6 +16,7 @@ ghost use Rattle.tables.specs.declared.span.Span.{Span as Part};
 ghost use Rattle.reader.specs.Bytes.{begins};
 ghost use Rattle.reader.specs.Machine.{Document, document, inside, finished, tag, attribute, naming, angle, close, outside, start, nothing, accepted, twice, from as becomes};
 ghost use Rattle.reader.specs.Outcomes.{went, Kept};
+ghost use Rattle.reader.specs.declared.fault.ReadRefusal.the-variants.{Ampersand, Grammar};
 ghost use Rattle.reader.specs.Tags.{behind, leads};
 use crate::fault::ReadFault;
 use crate::fault::ReadRefusal;
@@ -224,5 +225,119 @@ fn close_element(reader: &mut Reader, elements: &Table<Element>, nesting: &mut N
     reader.expect(b">")?;
     nesting.inner = open.parent;
     nesting.depth = nesting.depth.saturating_sub(1);
+    Ok(())
+}
+
+// Whether an element may begin: inside the root, or where none has been read.
+fn may_begin(depth: usize, rows: usize) -> bool
+    ensures { λ r. ⌜ r ≡ (ltb 0 depth || eqb rows 0) ⌝ }
+{
+    depth > 0 || rows == 0
+}
+
+// What stands behind a '<': a comment, a closing tag, or an element up to its text's end.
+fn markup(reader: &mut Reader, elements: &mut Table<Element>, attributes: &mut Table<Attribute>, nesting: &mut Nesting) -> Result<(), ReadFault>
+    ensures src { λ _. ⌜ now (now (reader .exit) .src) ≡ now (now (reader .entry) .src) ⌝ }
+    ensures further { λ _. ⌜ now (reader .entry) .pos ≤ now (reader .exit) .pos ⌝ }
+    ensures elements { λ _. ⌜ Kept (now (elements .entry)) (now (elements .exit)) ⌝ }
+    ensures attributes { λ _. ⌜ Kept (now (attributes .entry)) (now (attributes .exit)) ⌝ }
+    ensures goes { λ r. ⌜
+        becomes (now (now (reader .entry) .src)) (capacity (now (elements .entry))) (capacity (now (attributes .entry))) (angle (document (held (now (elements .entry))) (held (now (attributes .entry))) (now (nesting .entry) .inner) (now (nesting .entry) .depth))) (now (reader .entry) .pos)
+        ≡ went r (λ _. becomes (now (now (reader .entry) .src)) (capacity (now (elements .entry))) (capacity (now (attributes .entry))) (outside (document (held (now (elements .exit))) (held (now (attributes .exit))) (now (nesting .exit) .inner) (now (nesting .exit) .depth))) (now (reader .exit) .pos)) ⌝ }
+{
+    let Some(b) = reader.peek() else {
+        return Err(reader.refuse(ReadRefusal::Grammar));
+    };
+    if b == b'!' {
+        reader.advance();
+        return reader.comment();
+    }
+    if b == b'/' {
+        if nesting.depth == 0 {
+            return Err(reader.refuse(ReadRefusal::Grammar));
+        }
+        reader.advance();
+        return close_element(reader, elements, nesting);
+    }
+    if !is_first(b) {
+        return Err(reader.refuse(ReadRefusal::Grammar));
+    }
+    if !may_begin(nesting.depth, elements.len()) {
+        return Err(reader.refuse(ReadRefusal::Grammar));
+    }
+    read_element(reader, elements, attributes, nesting)
+}
+
+// Whether the root is closed.
+fn is_finished(depth: usize, rows: usize) -> bool
+    ensures { λ r. ⌜ r ≡ (not (ltb 0 depth) && not (eqb rows 0)) ⌝ }
+{
+    depth == 0 && rows != 0
+}
+
+// Why a byte may not stand between tags.
+fn stray(depth: usize, b: u8) -> ReadRefusal
+    ensures { λ r. ⌜ r ≡ cond (ltb 0 depth && eqb b 38) Ampersand Grammar ⌝ }
+{
+    if depth > 0 && b == b'&' { ReadRefusal::Ampersand } else { ReadRefusal::Grammar }
+}
+
+// Goes behind the next '<'; false where the manifest ends and its root is closed.
+fn next_markup(reader: &mut Reader, depth: usize, rows: usize) -> Result<bool, ReadFault>
+    ensures src { λ _. ⌜ now (now (reader .exit) .src) ≡ now (now (reader .entry) .src) ⌝ }
+    ensures further { λ r. ⌜ Cases r (λ more. (more ≡ true → now (reader .entry) .pos < now (reader .exit) .pos)) (λ _. now (reader .entry) .pos ≤ now (reader .exit) .pos) ⌝ }
+    ensures goes { λ r. ⌜ ((E A : ℕ) (d : Document) → d .depth ≡ depth → length (d .elements) ≡ rows →
+        becomes (now (now (reader .entry) .src)) E A (outside d) (now (reader .entry) .pos)
+        ≡ went r (λ more. cond more (becomes (now (now (reader .entry) .src)) E A (angle d) (now (reader .exit) .pos)) (accepted (d .elements) (d .attributes)))) ⌝ }
+{
+    reader.token(&LooseByte { inside: depth > 0 });
+    let Some(b) = reader.peek() else {
+        if is_finished(depth, rows) {
+            return Ok(false);
+        }
+        return Err(reader.refuse(ReadRefusal::Grammar));
+    };
+    if b == b'<' {
+        reader.advance();
+        return Ok(true);
+    }
+    Err(reader.refuse(stray(depth, b)))
+}
+
+// Whether the manifest begins with `<?`.
+fn is_declared(src: &[u8]) -> bool
+    ensures { λ r. ⌜ r ≡ (ltb 1 (length (now (src .entry))) && (eqb (getD (now (src .entry)) 0 0) 60 && eqb (getD (now (src .entry)) 1 0) 63)) ⌝ }
+{
+    src.len() > 1 && src[0] == b'<' && src[1] == b'?'
+}
+
+// The declaration, where there is one at byte 0.
+fn prolog(reader: &mut Reader) -> Result<(), ReadFault>
+    ensures src { λ _. ⌜ now (now (reader .exit) .src) ≡ now (now (reader .entry) .src) ⌝ }
+    ensures goes { λ r. ⌜ (now (reader .entry) .pos ≡ 0 → (E A : ℕ) →
+        becomes (now (now (reader .entry) .src)) E A start 0 ≡ went r (λ _. becomes (now (now (reader .entry) .src)) E A (outside nothing) (now (reader .exit) .pos))) ⌝ }
+{
+    if !is_declared(reader.src) {
+        return Ok(());
+    }
+    reader.advance();
+    reader.advance();
+    reader.declaration()
+}
+
+// The whole manifest, into tables that have no rows yet.
+fn read_document(src: &[u8], elements: &mut Table<Element>, attributes: &mut Table<Attribute>) -> Result<(), ReadFault>
+    ensures elements { λ _. ⌜ Kept (now (elements .entry)) (now (elements .exit)) ⌝ }
+    ensures attributes { λ _. ⌜ Kept (now (attributes .entry)) (now (attributes .exit)) ⌝ }
+    ensures goes { λ r. ⌜ (held (now (elements .entry)) ≡ [] → held (now (attributes .entry)) ≡ [] →
+        becomes (now (src .entry)) (capacity (now (elements .entry))) (capacity (now (attributes .entry))) start 0
+        ≡ went r (λ _. accepted (held (now (elements .exit))) (held (now (attributes .exit))))) ⌝ }
+{
+    let mut reader = Reader::new(src);
+    prolog(&mut reader)?;
+    let mut nesting = Nesting { inner: 0, depth: 0 };
+    'markup: while next_markup(&mut reader, nesting.depth, elements.len())? {
+        markup(&mut reader, elements, attributes, &mut nesting)?;
+    }
     Ok(())
 }

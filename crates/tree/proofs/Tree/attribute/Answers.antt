@@ -1,15 +1,11 @@
-use mathlib.Core.Path.{_≡_, refl, sym, ap, _∙_}
-use mathlib.Core.Bool.{true, false}
+use mathlib.Core.Path.{refl, sym, ap, _∙_}
 use native.Mathlib.Omega.{arith}
-use lib.ListN.{getD}
 use Rattle.std.proofs.shelf.Lists.{at-drop-all}
-use Rattle.std.proofs.shelf.Ways.{not-from-decides}
 use Rattle.std.specs.declared.option.Option.the-variants.{Some}
-use Rattle.tables.specs.Zero.{no-attribute}
 use Rattle.tree.specs.Laws.{Bears}
-use Rattle.tree.specs.Questions.{belongs, valueOf}
+use Rattle.tree.specs.Questions.{valueOf}
 use Rattle.tree.proofs.Tree.attribute.Needs as need
-use Rattle.tree.proofs.Walk.{nowhere-more, bears, value-here, value-more}
+use Rattle.tree.proofs.Walk.{nowhere-more, bears-here, bears-not, value-here, value-more}
 
 pub rows-holds : need.rows-holds
 rows-holds c = (refl, λ i from below p. omega arith)
@@ -18,23 +14,26 @@ pub returns-then-attribute-is : need.returns-then-attribute-is
 returns-then-attribute-is c =
     let m = c .args .self .now .manifest .now in
     let rows = c .args .self .now .attributes .now in
+    let e = c .args .row in
+    let n = c .args .name .now in
     let i = c .rows .attribute-index in
-    let fits : belongs m (c .args .row) (c .args .name .now) (getD rows i no-attribute) ≡ true = sym (c .if-attribute-is .ensures tt) in
-    let value = ap (λ v. Some v) (c .part .ensures) in
+    let within = c .rows-test .taken in
+    let fits = c .if-attribute-is .ensures tt in
     record {
-      value = value ∙ sym (c .rows .inv .0 ∙ value-here m (c .args .row) (c .args .name .now) rows i (c .rows-test .taken) fits);
-      first = (i, record { from = omega arith; below = c .rows-test .taken; here = bears m (c .args .row) (c .args .name .now) rows i .0 fits; before = c .rows .inv .1 }, c .part .ensures);
+      value = ap (λ v. Some v) (c .part .ensures) ∙ sym (c .rows .inv .0 ∙ value-here m e n rows i within fits);
+      first = (i, record { from = omega arith; below = within; here = bears-here m e n rows i fits; before = c .rows .inv .1 }, c .part .ensures);
     }
 
 pub rows-again : need.rows-again
 rows-again c =
     let m = c .args .self .now .manifest .now in
     let rows = c .args .self .now .attributes .now in
-    let i = c .rows .attribute-index in
+    let e = c .args .row in
     let n = c .args .name .now in
-    let other : belongs m (c .args .row) n (getD rows i no-attribute) ≡ false = sym (c .if-attribute-is .ensures tt) in (
-      c .rows .inv .0 ∙ value-more m (c .args .row) n rows i (c .rows-test .taken) other,
-      nowhere-more (Bears m (c .args .row) n rows) 0 i (c .rows .inv .1) (not-from-decides _ (bears m (c .args .row) n rows i) other),
+    let i = c .rows .attribute-index in
+    let other = c .if-attribute-is .ensures tt in (
+      c .rows .inv .0 ∙ value-more m e n rows i (c .rows-test .taken) other,
+      nowhere-more (Bears m e n rows) 0 i (c .rows .inv .1) (bears-not m e n rows i other),
     )
 
 pub returns : need.returns

@@ -1,5 +1,4 @@
 use mathlib.Core.Path.{sym, ap, _∙_}
-use Prim.Native.Nat.{_≤_}
 use lib.Dec.{leb}
 use lib.ListN.{length, take, drop}
 use mathlib.Core.List.{[]}

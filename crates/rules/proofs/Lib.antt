@@ -1,0 +1,4 @@
+mod Ands
+mod Made
+mod Pushes
+mod Worked

@@ -1,0 +1,5 @@
+pub mod Broken
+pub mod Faults
+pub mod Findings
+pub mod Laws
+pub mod Trees

@@ -1,0 +1,12 @@
+// Conformance rules of a manifest, and the findings where they are broken.
+mod checker;
+mod element;
+mod rule;
+#[cfg(test)]
+mod tests;
+
+pub use checker::check;
+pub use rule::CheckFault;
+pub use rule::Finding;
+pub use rule::FindingRow;
+pub use rule::Rule;
