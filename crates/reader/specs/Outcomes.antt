@@ -5,7 +5,7 @@ use Prim.Native.Nat.{ℕ}
 use denote.Ref.{name}
 use Rattle.std.specs.declared.result.Result.{Result}
 use Rattle.std.specs.declared.result.Result.the-variants.{Ok, Err}
-use Rattle.tables.specs.Rows.{capacity, Clean}
+use Rattle.tables.specs.Rows.{held, capacity, Clean}
 use Rattle.tables.specs.declared.manifest.Attribute.{Attribute}
 use Rattle.tables.specs.declared.manifest.Element.{Element}
 use Rattle.tables.specs.declared.store.Table.{Table}
@@ -35,3 +35,10 @@ pub record Kept {X : Type 0} (t u : Table X) : Type 0 where
   pub capacity : capacity u ≡ capacity t
   pub lent : name (u .rows) ≡ name (t .rows)
   pub clean : (z : X) → Clean z t → Clean z u
+
+-- the table u is t with these rows and no others: the same slice, and every unused row is z
+pub record Filled {X : Type 0} (z : X) (t : Table X) (rows : List X) (u : Table X) : Type 0 where
+  pub held : held u ≡ rows
+  pub clean : Clean z u
+  pub capacity : capacity u ≡ capacity t
+  pub lent : name (u .rows) ≡ name (t .rows)

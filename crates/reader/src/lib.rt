@@ -4,3 +4,4 @@ mod lexer;
 
 pub use fault::ReadFault;
 pub use fault::ReadRefusal;
+pub use lexer::markup::read;

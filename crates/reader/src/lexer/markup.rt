@@ -9,13 +9,13 @@ ghost use Rattle.std.specs.Results.{Cases};
 ghost use Rattle.std.specs.shelf.Text.{sameBytes};
 ghost use Rattle.tables.specs.Parts.{part};
 ghost use Rattle.tables.specs.Rows.{held, capacity};
-ghost use Rattle.tables.specs.Zero.{no-element};
+ghost use Rattle.tables.specs.Zero.{no-element, no-attribute};
 ghost use Rattle.tables.specs.declared.manifest.Attribute.{Attribute as AttributeOf};
 ghost use Rattle.tables.specs.declared.manifest.Element.{Element as ElementOf};
 ghost use Rattle.tables.specs.declared.span.Span.{Span as Part};
 ghost use Rattle.reader.specs.Bytes.{begins};
-ghost use Rattle.reader.specs.Machine.{Document, document, inside, finished, tag, attribute, naming, angle, close, outside, start, nothing, accepted, twice, from as becomes};
-ghost use Rattle.reader.specs.Outcomes.{went, Kept};
+ghost use Rattle.reader.specs.Machine.{Document, document, inside, finished, tag, attribute, naming, angle, close, outside, start, nothing, accepted, twice, reading, from as becomes};
+ghost use Rattle.reader.specs.Outcomes.{answer, elementsOf, attributesOf, went, Kept, Filled};
 ghost use Rattle.reader.specs.declared.fault.ReadRefusal.the-variants.{Ampersand, Grammar};
 ghost use Rattle.reader.specs.Tags.{behind, leads};
 use crate::fault::ReadFault;
@@ -340,4 +340,38 @@ fn read_document(src: &[u8], elements: &mut Table<Element>, attributes: &mut Tab
         markup(&mut reader, elements, attributes, &mut nesting)?;
     }
     Ok(())
+}
+
+// A manifest has at most so many bytes.
+const LIMIT: usize = 65_536;
+
+// Reads a manifest into rows of its elements and attributes. What the tables held before is given up;
+// after a refusal they hold no rows.
+pub fn read(manifest: &[u8], elements: &mut Table<Element>, attributes: &mut Table<Attribute>) -> Result<(), ReadFault>
+    ensures answer { λ r. ⌜ r ≡ answer (reading (now (manifest .entry)) (capacity (now (elements .entry))) (capacity (now (attributes .entry)))) ⌝ }
+    ensures elements { λ _. ⌜ Filled no-element (now (elements .entry)) (elementsOf (reading (now (manifest .entry)) (capacity (now (elements .entry))) (capacity (now (attributes .entry))))) (now (elements .exit)) ⌝ }
+    ensures attributes { λ _. ⌜ Filled no-attribute (now (attributes .entry)) (attributesOf (reading (now (manifest .entry)) (capacity (now (elements .entry))) (capacity (now (attributes .entry))))) (now (attributes .exit)) ⌝ }
+{
+    elements.clear();
+    attributes.clear();
+    let answer = read_bounded(manifest, elements, attributes);
+    if answer.is_err() {
+        elements.clear();
+        attributes.clear();
+    }
+    answer
+}
+
+// The same into tables that have no rows yet, and with what a refusal leaves in them.
+fn read_bounded(manifest: &[u8], elements: &mut Table<Element>, attributes: &mut Table<Attribute>) -> Result<(), ReadFault>
+    ensures elements { λ _. ⌜ Kept (now (elements .entry)) (now (elements .exit)) ⌝ }
+    ensures attributes { λ _. ⌜ Kept (now (attributes .entry)) (now (attributes .exit)) ⌝ }
+    ensures goes { λ r. ⌜ (held (now (elements .entry)) ≡ [] → held (now (attributes .entry)) ≡ [] →
+        reading (now (manifest .entry)) (capacity (now (elements .entry))) (capacity (now (attributes .entry)))
+        ≡ went r (λ _. accepted (held (now (elements .exit))) (held (now (attributes .exit))))) ⌝ }
+{
+    if manifest.len() > LIMIT {
+        return Err(ReadFault { refusal: ReadRefusal::TooLong, byte: 0 });
+    }
+    read_document(manifest, elements, attributes)
 }
