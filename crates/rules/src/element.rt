@@ -14,7 +14,7 @@ use template::holds;
 use tree::Tree;
 
 // Whether the rule is broken at the element in the row.
-pub fn is_broken(tree: &Tree, row: usize, rule: Rule) -> bool
+pub(crate) fn is_broken(tree: &Tree, row: usize, rule: Rule) -> bool
     ensures { λ r. ⌜ r ≡ brokenAt (now (tree .entry)) row rule ⌝ }
 {
     match rule {

@@ -1,5 +1,4 @@
 // The checker on a small manifest.
-use crate::CheckFault;
 use crate::Finding;
 use crate::FindingRow;
 use crate::Rule;
