@@ -38,7 +38,11 @@ pub enum Line {
 fn angle_at(elements: &[Element], row: usize) -> u64
     ensures { λ r. ⌜ r ≡ angleAt (now (elements .entry)) row ⌝ }
 {
-    if row < elements.len() { elements[row].name.at.saturating_sub(1) as u64 } else { 0 }
+    if row < elements.len() {
+        elements[row].name.at.saturating_sub(1) as u64
+    } else {
+        0
+    }
 }
 
 // The number of the rule, 0 where there is none.
@@ -53,11 +57,20 @@ fn number_of(rule: Option<Rule>) -> u8
 
 // The line at a place of the listing, which a survey answered and left these rows for; none past the
 // last one.
-pub fn line_at(answer: Result<(), ListFault>, elements: &[Element], findings: &[Finding], place: usize) -> Option<Line>
+pub fn line_at(
+    answer: Result<(), ListFault>,
+    elements: &[Element],
+    findings: &[Finding],
+    place: usize,
+) -> Option<Line>
     ensures { λ r. ⌜ r ≡ nth (lines answer (now (elements .entry)) (now (findings .entry))) place ⌝ }
 {
     if let Err(fault) = answer {
-        return if place == 0 { Some(Line::Refused(fault.number())) } else { None };
+        return if place == 0 {
+            Some(Line::Refused(fault.number()))
+        } else {
+            None
+        };
     }
     if place == 0 {
         return Some(Line::Findings(findings.len() as u64));

@@ -22,7 +22,12 @@ use tables::Table;
 
 // Reads the manifest into rows and lists which rules it breaks where. What the tables held before is
 // given up. After a refusal by reading they hold no rows; after one by check the findings hold none.
-pub fn survey(manifest: &[u8], elements: &mut Table<Element>, attributes: &mut Table<Attribute>, findings: &mut Table<Finding>) -> Result<(), ListFault>
+pub fn survey(
+    manifest: &[u8],
+    elements: &mut Table<Element>,
+    attributes: &mut Table<Attribute>,
+    findings: &mut Table<Finding>,
+) -> Result<(), ListFault>
     ensures answer { λ r. ⌜ r ≡ surveyed (now (manifest .entry)) (capacity (now (elements .entry))) (capacity (now (attributes .entry))) (capacity (now (findings .entry))) ⌝ }
     ensures elements { λ _. ⌜ Filled no-element (now (elements .entry)) (elementsOf (reading (now (manifest .entry)) (capacity (now (elements .entry))) (capacity (now (attributes .entry))))) (now (elements .exit)) ⌝ }
     ensures attributes { λ _. ⌜ Filled no-attribute (now (attributes .entry)) (attributesOf (reading (now (manifest .entry)) (capacity (now (elements .entry))) (capacity (now (attributes .entry))))) (now (attributes .exit)) ⌝ }

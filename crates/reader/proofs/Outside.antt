@@ -106,8 +106,8 @@ module _ (m : List ℕ) (E A : ℕ) where
       tag y =
           ⊎-elim
           (λ h.
-            from-to m E A start begun 0 h (ap (λ b. step m E A start 0 b) y)
-            ∙ from-same m E A begun (angle nothing) 1 (λ lt. cond-false _ _ _ (no-question y lt)) refl
-            ∙ sym (from-to m E A (outside nothing) (angle nothing) 0 h (ap (λ b. step m E A (outside nothing) 0 b) y)))
+          from-to m E A start begun 0 h (ap (λ b. step m E A start 0 b) y)
+          ∙ from-same m E A begun (angle nothing) 1 (λ lt. cond-false _ _ _ (no-question y lt)) refl
+          ∙ sym (from-to m E A (outside nothing) (angle nothing) 0 h (ap (λ b. step m E A (outside nothing) 0 b) y)))
           (λ le. from-end m E A start 0 le ∙ sym (from-end m E A (outside nothing) 0 le))
           (cases-lt 0 (length m))

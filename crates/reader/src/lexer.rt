@@ -176,7 +176,10 @@ impl Token<'_> {
     fn span(&self) -> Span
         ensures { λ r. ⌜ r ≡ span (now (self .entry) .at) (length (now (now (self .entry) .text))) ⌝ }
     {
-        Span { at: self.at, len: self.text.len() }
+        Span {
+            at: self.at,
+            len: self.text.len(),
+        }
     }
 }
 
@@ -208,7 +211,10 @@ impl<'a> Reader<'a> {
     fn refuse(&self, refusal: ReadRefusal) -> ReadFault
         ensures { λ r. ⌜ (r .refusal ≡ refusal) × (r .byte ≡ now (self .entry) .pos) ⌝ }
     {
-        ReadFault { refusal, byte: self.pos }
+        ReadFault {
+            refusal,
+            byte: self.pos,
+        }
     }
 
     // Goes behind the byte at the cursor, where there is one.
@@ -234,7 +240,10 @@ impl<'a> Reader<'a> {
         let at = self.pos;
         let end = run(class, src, at);
         self.pos = end;
-        Token { text: &src[at..end], at }
+        Token {
+            text: &src[at..end],
+            at,
+        }
     }
 
     // The bytes of the word have to stand at the cursor, which goes behind them.

@@ -25,11 +25,23 @@ const ROWS: usize = 1_024;
 
 const NOWHERE: Span = Span { at: 0, len: 0 };
 
-const NO_ELEMENT: Element = Element { name: NOWHERE, parent: 0, level: 0, text: NOWHERE };
+const NO_ELEMENT: Element = Element {
+    name: NOWHERE,
+    parent: 0,
+    level: 0,
+    text: NOWHERE,
+};
 
-const NO_ATTRIBUTE: Attribute = Attribute { element: 0, name: NOWHERE, value: NOWHERE };
+const NO_ATTRIBUTE: Attribute = Attribute {
+    element: 0,
+    name: NOWHERE,
+    value: NOWHERE,
+};
 
-const NO_FINDING: Finding = Finding { rule: None, element: 0 };
+const NO_FINDING: Finding = Finding {
+    rule: None,
+    element: 0,
+};
 
 // Fills the buffer from standard input, and says how much there was.
 fn fill(rt: &LibcRuntime, buffer: &mut [u8]) -> io::Result<usize> {

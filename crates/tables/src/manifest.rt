@@ -30,7 +30,12 @@ pub impl Row for Element as ElementRow {
     ghost zero = { no-element };
 
     fn zeroed() -> Element {
-        Element { name: NOWHERE, parent: 0, level: 0, text: NOWHERE }
+        Element {
+            name: NOWHERE,
+            parent: 0,
+            level: 0,
+            text: NOWHERE,
+        }
     }
 }
 
@@ -38,6 +43,10 @@ pub impl Row for Attribute as AttributeRow {
     ghost zero = { no-attribute };
 
     fn zeroed() -> Attribute {
-        Attribute { element: 0, name: NOWHERE, value: NOWHERE }
+        Attribute {
+            element: 0,
+            name: NOWHERE,
+            value: NOWHERE,
+        }
     }
 }

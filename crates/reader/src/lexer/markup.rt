@@ -18,16 +18,16 @@ ghost use Rattle.reader.specs.Machine.{Document, document, inside, finished, t
 ghost use Rattle.reader.specs.Outcomes.{answer, elementsOf, attributesOf, went, Kept, Filled};
 ghost use Rattle.reader.specs.declared.fault.ReadRefusal.the-variants.{Ampersand, Grammar};
 ghost use Rattle.reader.specs.Tags.{behind, leads};
+use super::Blank;
+use super::BlankClass;
+use super::LooseByte;
+use super::LooseByteClass;
+use super::NameByte;
+use super::NameByteClass;
+use super::Reader;
+use super::is_first;
 use crate::fault::ReadFault;
 use crate::fault::ReadRefusal;
-use super::Blank;
-use super::LooseByte;
-use super::NameByte;
-use super::Reader;
-use super::BlankClass;
-use super::LooseByteClass;
-use super::NameByteClass;
-use super::is_first;
 use tables::Attribute;
 use tables::AttributeRow;
 use tables::Element;
@@ -77,7 +77,11 @@ fn is_twice(src: &[u8], rows: &[Attribute], element: usize, name: &[u8]) -> bool
 }
 
 // The attribute whose name begins at the cursor, of the element that is to get the row.
-fn read_attribute(reader: &mut Reader, element: usize, attributes: &mut Table<Attribute>) -> Result<(), ReadFault>
+fn read_attribute(
+    reader: &mut Reader,
+    element: usize,
+    attributes: &mut Table<Attribute>,
+) -> Result<(), ReadFault>
     ensures src { λ _. ⌜ now (now (reader .exit) .src) ≡ now (now (reader .entry) .src) ⌝ }
     ensures further { λ _. ⌜ now (reader .entry) .pos ≤ now (reader .exit) .pos ⌝ }
     ensures kept { λ _. ⌜ Kept (now (attributes .entry)) (now (attributes .exit)) ⌝ }
@@ -87,21 +91,38 @@ fn read_attribute(reader: &mut Reader, element: usize, attributes: &mut Table<At
 {
     let name = reader.token(&NameByte);
     if attributes.is_full() {
-        return Err(ReadFault { refusal: ReadRefusal::AttributesFull, byte: name.at });
+        return Err(ReadFault {
+            refusal: ReadRefusal::AttributesFull,
+            byte: name.at,
+        });
     }
     if is_twice(reader.src, attributes.rows(), element, name.text) {
-        return Err(ReadFault { refusal: ReadRefusal::AttributeTwice, byte: name.at });
+        return Err(ReadFault {
+            refusal: ReadRefusal::AttributeTwice,
+            byte: name.at,
+        });
     }
     let value = reader.value()?;
-    let row = Attribute { element, name: name.span(), value: value.span() };
+    let row = Attribute {
+        element,
+        name: name.span(),
+        value: value.span(),
+    };
     match attributes.push(row) {
         Ok(()) => Ok(()),
-        Err(_) => Err(ReadFault { refusal: ReadRefusal::AttributesFull, byte: name.at }),
+        Err(_) => Err(ReadFault {
+            refusal: ReadRefusal::AttributesFull,
+            byte: name.at,
+        }),
     }
 }
 
 // What stands next in a start tag: the cursor goes behind it.
-fn tag_part(reader: &mut Reader, element: usize, attributes: &mut Table<Attribute>) -> Result<TagPart, ReadFault>
+fn tag_part(
+    reader: &mut Reader,
+    element: usize,
+    attributes: &mut Table<Attribute>,
+) -> Result<TagPart, ReadFault>
     ensures src { λ _. ⌜ now (now (reader .exit) .src) ≡ now (now (reader .entry) .src) ⌝ }
     ensures further { λ r. ⌜ Cases r (λ _. now (reader .entry) .pos < now (reader .exit) .pos) (λ _. now (reader .entry) .pos ≤ now (reader .exit) .pos) ⌝ }
     ensures kept { λ _. ⌜ Kept (now (attributes .entry)) (now (attributes .exit)) ⌝ }
@@ -133,7 +154,11 @@ fn tag_part(reader: &mut Reader, element: usize, attributes: &mut Table<Attribut
 }
 
 // The rest of a start tag behind its name, and whether it ends in '/>'.
-fn rest_of_tag(reader: &mut Reader, element: usize, attributes: &mut Table<Attribute>) -> Result<bool, ReadFault>
+fn rest_of_tag(
+    reader: &mut Reader,
+    element: usize,
+    attributes: &mut Table<Attribute>,
+) -> Result<bool, ReadFault>
     ensures src { λ _. ⌜ now (now (reader .exit) .src) ≡ now (now (reader .entry) .src) ⌝ }
     ensures further { λ _. ⌜ now (reader .entry) .pos ≤ now (reader .exit) .pos ⌝ }
     ensures kept { λ _. ⌜ Kept (now (attributes .entry)) (now (attributes .exit)) ⌝ }
@@ -159,12 +184,20 @@ fn add(elements: &mut Table<Element>, row: Element, byte: usize) -> Result<(), R
 {
     match elements.push(row) {
         Ok(()) => Ok(()),
-        Err(_) => Err(ReadFault { refusal: ReadRefusal::ElementsFull, byte }),
+        Err(_) => Err(ReadFault {
+            refusal: ReadRefusal::ElementsFull,
+            byte,
+        }),
     }
 }
 
 // The element whose name begins at the cursor, up to its text's end.
-fn read_element(reader: &mut Reader, elements: &mut Table<Element>, attributes: &mut Table<Attribute>, nesting: &mut Nesting) -> Result<(), ReadFault>
+fn read_element(
+    reader: &mut Reader,
+    elements: &mut Table<Element>,
+    attributes: &mut Table<Attribute>,
+    nesting: &mut Nesting,
+) -> Result<(), ReadFault>
     ensures src { λ _. ⌜ now (now (reader .exit) .src) ≡ now (now (reader .entry) .src) ⌝ }
     ensures further { λ _. ⌜ now (reader .entry) .pos ≤ now (reader .exit) .pos ⌝ }
     ensures elements { λ _. ⌜ Kept (now (elements .entry)) (now (elements .exit)) ⌝ }
@@ -176,20 +209,44 @@ fn read_element(reader: &mut Reader, elements: &mut Table<Element>, attributes: 
     let name = reader.token(&NameByte);
     let byte = name.at.saturating_sub(1);
     if nesting.depth >= LEVELS {
-        return Err(ReadFault { refusal: ReadRefusal::TooDeep, byte });
+        return Err(ReadFault {
+            refusal: ReadRefusal::TooDeep,
+            byte,
+        });
     }
     if elements.is_full() {
-        return Err(ReadFault { refusal: ReadRefusal::ElementsFull, byte });
+        return Err(ReadFault {
+            refusal: ReadRefusal::ElementsFull,
+            byte,
+        });
     }
     let row = elements.len();
     let level = nesting.depth + 1;
     let empty = rest_of_tag(reader, row, attributes)?;
     if empty {
-        add(elements, Element { name: name.span(), parent: nesting.inner, level, text: NO_TEXT }, byte)?;
+        add(
+            elements,
+            Element {
+                name: name.span(),
+                parent: nesting.inner,
+                level,
+                text: NO_TEXT,
+            },
+            byte,
+        )?;
         return Ok(());
     }
     let text = reader.text()?;
-    add(elements, Element { name: name.span(), parent: nesting.inner, level, text: text.span() }, byte)?;
+    add(
+        elements,
+        Element {
+            name: name.span(),
+            parent: nesting.inner,
+            level,
+            text: text.span(),
+        },
+        byte,
+    )?;
     nesting.inner = row;
     nesting.depth = level;
     Ok(())
@@ -199,11 +256,19 @@ fn read_element(reader: &mut Reader, elements: &mut Table<Element>, attributes: 
 fn element_at(rows: &[Element], i: usize) -> Element
     ensures { λ r. ⌜ r ≡ getD (now (rows .entry)) i no-element ⌝ }
 {
-    if i < rows.len() { rows[i] } else { Element::zeroed() }
+    if i < rows.len() {
+        rows[i]
+    } else {
+        Element::zeroed()
+    }
 }
 
 // The closing tag behind its `</`.
-fn close_element(reader: &mut Reader, elements: &Table<Element>, nesting: &mut Nesting) -> Result<(), ReadFault>
+fn close_element(
+    reader: &mut Reader,
+    elements: &Table<Element>,
+    nesting: &mut Nesting,
+) -> Result<(), ReadFault>
     ensures src { λ _. ⌜ now (now (reader .exit) .src) ≡ now (now (reader .entry) .src) ⌝ }
     ensures further { λ _. ⌜ now (reader .entry) .pos ≤ now (reader .exit) .pos ⌝ }
     ensures goes { λ r. ⌜ ((E A : ℕ) (xs : List AttributeOf) →
@@ -219,7 +284,10 @@ fn close_element(reader: &mut Reader, elements: &Table<Element>, nesting: &mut N
     let name = reader.token(&NameByte);
     let open = element_at(elements.rows(), nesting.inner);
     if !same(open.name.part(reader.src), name.text) {
-        return Err(ReadFault { refusal: ReadRefusal::ClosingName, byte: name.at });
+        return Err(ReadFault {
+            refusal: ReadRefusal::ClosingName,
+            byte: name.at,
+        });
     }
     reader.token(&Blank);
     reader.expect(b">")?;
@@ -236,7 +304,12 @@ fn may_begin(depth: usize, rows: usize) -> bool
 }
 
 // What stands behind a '<': a comment, a closing tag, or an element up to its text's end.
-fn markup(reader: &mut Reader, elements: &mut Table<Element>, attributes: &mut Table<Attribute>, nesting: &mut Nesting) -> Result<(), ReadFault>
+fn markup(
+    reader: &mut Reader,
+    elements: &mut Table<Element>,
+    attributes: &mut Table<Attribute>,
+    nesting: &mut Nesting,
+) -> Result<(), ReadFault>
     ensures src { λ _. ⌜ now (now (reader .exit) .src) ≡ now (now (reader .entry) .src) ⌝ }
     ensures further { λ _. ⌜ now (reader .entry) .pos ≤ now (reader .exit) .pos ⌝ }
     ensures elements { λ _. ⌜ Kept (now (elements .entry)) (now (elements .exit)) ⌝ }
@@ -279,7 +352,11 @@ fn is_finished(depth: usize, rows: usize) -> bool
 fn stray(depth: usize, b: u8) -> ReadRefusal
     ensures { λ r. ⌜ r ≡ cond (ltb 0 depth && eqb b 38) Ampersand Grammar ⌝ }
 {
-    if depth > 0 && b == b'&' { ReadRefusal::Ampersand } else { ReadRefusal::Grammar }
+    if depth > 0 && b == b'&' {
+        ReadRefusal::Ampersand
+    } else {
+        ReadRefusal::Grammar
+    }
 }
 
 // Goes behind the next '<'; false where the manifest ends and its root is closed.
@@ -326,7 +403,11 @@ fn prolog(reader: &mut Reader) -> Result<(), ReadFault>
 }
 
 // The whole manifest, into tables that have no rows yet.
-fn read_document(src: &[u8], elements: &mut Table<Element>, attributes: &mut Table<Attribute>) -> Result<(), ReadFault>
+fn read_document(
+    src: &[u8],
+    elements: &mut Table<Element>,
+    attributes: &mut Table<Attribute>,
+) -> Result<(), ReadFault>
     ensures elements { λ _. ⌜ Kept (now (elements .entry)) (now (elements .exit)) ⌝ }
     ensures attributes { λ _. ⌜ Kept (now (attributes .entry)) (now (attributes .exit)) ⌝ }
     ensures goes { λ r. ⌜ (held (now (elements .entry)) ≡ [] → held (now (attributes .entry)) ≡ [] →
@@ -347,7 +428,11 @@ const LIMIT: usize = 65_536;
 
 // Reads a manifest into rows of its elements and attributes. What the tables held before is given up;
 // after a refusal they hold no rows.
-pub fn read(manifest: &[u8], elements: &mut Table<Element>, attributes: &mut Table<Attribute>) -> Result<(), ReadFault>
+pub fn read(
+    manifest: &[u8],
+    elements: &mut Table<Element>,
+    attributes: &mut Table<Attribute>,
+) -> Result<(), ReadFault>
     ensures answer { λ r. ⌜ r ≡ answer (reading (now (manifest .entry)) (capacity (now (elements .entry))) (capacity (now (attributes .entry)))) ⌝ }
     ensures elements { λ _. ⌜ Filled no-element (now (elements .entry)) (elementsOf (reading (now (manifest .entry)) (capacity (now (elements .entry))) (capacity (now (attributes .entry))))) (now (elements .exit)) ⌝ }
     ensures attributes { λ _. ⌜ Filled no-attribute (now (attributes .entry)) (attributesOf (reading (now (manifest .entry)) (capacity (now (elements .entry))) (capacity (now (attributes .entry))))) (now (attributes .exit)) ⌝ }
@@ -363,7 +448,11 @@ pub fn read(manifest: &[u8], elements: &mut Table<Element>, attributes: &mut Tab
 }
 
 // The same into tables that have no rows yet, and with what a refusal leaves in them.
-fn read_bounded(manifest: &[u8], elements: &mut Table<Element>, attributes: &mut Table<Attribute>) -> Result<(), ReadFault>
+fn read_bounded(
+    manifest: &[u8],
+    elements: &mut Table<Element>,
+    attributes: &mut Table<Attribute>,
+) -> Result<(), ReadFault>
     ensures elements { λ _. ⌜ Kept (now (elements .entry)) (now (elements .exit)) ⌝ }
     ensures attributes { λ _. ⌜ Kept (now (attributes .entry)) (now (attributes .exit)) ⌝ }
     ensures goes { λ r. ⌜ (held (now (elements .entry)) ≡ [] → held (now (attributes .entry)) ≡ [] →
@@ -371,7 +460,10 @@ fn read_bounded(manifest: &[u8], elements: &mut Table<Element>, attributes: &mut
         ≡ went r (λ _. accepted (held (now (elements .exit))) (held (now (attributes .exit))))) ⌝ }
 {
     if manifest.len() > LIMIT {
-        return Err(ReadFault { refusal: ReadRefusal::TooLong, byte: 0 });
+        return Err(ReadFault {
+            refusal: ReadRefusal::TooLong,
+            byte: 0,
+        });
     }
     read_document(manifest, elements, attributes)
 }

@@ -22,8 +22,8 @@ returns c =
     let fs = c .args .findings .now in
     let es = c .args .elements .now in
     let found = ap (λ a. nth (lines a es fs) (c .args .place)) (c .in-rest .is)
-        ∙ nth-next (Findings (length fs)) (map (findingLine es) fs) (c .args .place) (omega (arith, c .if-place-eq0-2 .left))
-        ∙ nth-at (findingLine es) fs (c .args .place - 1) no-finding (omega (arith, c .if-place-eq0-2 .left, c .if-place-findings .left)) in
+    ∙ nth-next (Findings (length fs)) (map (findingLine es) fs) (c .args .place) (omega (arith, c .if-place-eq0-2 .left))
+    ∙ nth-at (findingLine es) fs (c .args .place - 1) no-finding (omega (arith, c .if-place-eq0-2 .left, c .if-place-findings .left)) in
     let rule = c .number-of .ensures in
     let byte = c .angle-at .ensures in
     cc

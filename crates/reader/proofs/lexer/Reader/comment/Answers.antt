@@ -24,11 +24,11 @@ returns-then-ends-comment c =
       src = c .advance .ensures .src ∙ i .0 ∙ back .src;
       further = omega (arith, back .further);
       goes = λ E A d.
-        let word = back .goes E A (comment 0 d) in
-        let here = i .2 E A d in
-        let shut = comment-closed n E A p k d (omega (arith, byte .0)) (ap (λ b. leb 2 k && eqb b 62) (sym is) ∙ sym (c .if-ends-comment .ensures tt)) in
-        let m = back .src in
-        cc;
+          let word = back .goes E A (comment 0 d) in
+          let here = i .2 E A d in
+          let shut = comment-closed n E A p k d (omega (arith, byte .0)) (ap (λ b. leb 2 k && eqb b 62) (sym is) ∙ sym (c .if-ends-comment .ensures tt)) in
+          let m = back .src in
+          cc;
     }
 
 pub returns-then-not-is-visible : need.returns-then-not-is-visible
@@ -45,11 +45,11 @@ returns-then-not-is-visible c =
       src = i .0 ∙ back .src;
       further = omega (arith, back .further);
       goes = λ E A d.
-        let word = back .goes E A (comment 0 d) in
-        let here = i .2 E A d in
-        let other = comment-other n E A p k d (omega (arith, byte .0)) (ap (λ b. leb 2 k && eqb b 62) (sym is) ∙ sym (c .if-ends-comment .ensures tt)) (ap visible (sym is) ∙ sym (c .if-not-is-visible .ensures tt)) in
-        let m = back .src in
-        cc;
+          let word = back .goes E A (comment 0 d) in
+          let here = i .2 E A d in
+          let other = comment-other n E A p k d (omega (arith, byte .0)) (ap (λ b. leb 2 k && eqb b 62) (sym is) ∙ sym (c .if-ends-comment .ensures tt)) (ap visible (sym is) ∙ sym (c .if-not-is-visible .ensures tt)) in
+          let m = back .src in
+          cc;
     }
 
 pub loop-b-again : need.loop-b-again
@@ -61,11 +61,14 @@ loop-b-again c =
     let long = ap length (i .0) in
     let byte = c .in-Some .ensures tt in
     let is = byte .1 ∙ ap (λ l. getD l p 0) (i .0) in
-    let moved = c .advance-in-Some .ensures .pos (byte .0) in
-    (c .advance-in-Some .ensures .src ∙ i .0, omega arith, λ E A d.
-        let here = i .2 E A d in
-        let on = comment-next n E A p k d (omega (arith, byte .0)) (ap (λ b. leb 2 k && eqb b 62) (sym is) ∙ sym (c .if-ends-comment .ensures tt)) (ap visible (sym is) ∙ sym (c .if-not-is-visible .ensures tt)) in
-        cc)
+    let moved = c .advance-in-Some .ensures .pos (byte .0) in (
+      c .advance-in-Some .ensures .src ∙ i .0,
+      omega arith,
+      λ E A d.
+          let here = i .2 E A d in
+          let on = comment-next n E A p k d (omega (arith, byte .0)) (ap (λ b. leb 2 k && eqb b 62) (sym is) ∙ sym (c .if-ends-comment .ensures tt)) (ap visible (sym is) ∙ sym (c .if-not-is-visible .ensures tt)) in
+          cc,
+    )
 
 pub returns : need.returns
 returns c =
@@ -78,9 +81,9 @@ returns c =
       src = i .0 ∙ back .src;
       further = omega (arith, back .further);
       goes = λ E A d.
-        let word = back .goes E A (comment 0 d) in
-        let here = i .2 E A d in
-        let ends = comment-ends n E A p (c .loop-b .dashes) d (omega (arith, c .in-rest .ensures tt)) in
-        let m = back .src in
-        cc;
+          let word = back .goes E A (comment 0 d) in
+          let here = i .2 E A d in
+          let ends = comment-ends n E A p (c .loop-b .dashes) d (omega (arith, c .in-rest .ensures tt)) in
+          let m = back .src in
+          cc;
     }

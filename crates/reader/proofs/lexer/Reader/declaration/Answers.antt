@@ -23,11 +23,11 @@ returns-then-ends-declaration c =
     record {
       src = c .advance .ensures .src ∙ i .0 ∙ back .src;
       goes = λ E A.
-        let word = back .goes E A (declaration false) in
-        let here = i .1 E A in
-        let shut = declaration-closed n E A p k (omega (arith, byte .0)) (ap (λ b. k && eqb b 62) (sym is) ∙ sym (c .if-ends-declaration .ensures tt)) in
-        let m = back .src in
-        cc;
+          let word = back .goes E A (declaration false) in
+          let here = i .1 E A in
+          let shut = declaration-closed n E A p k (omega (arith, byte .0)) (ap (λ b. k && eqb b 62) (sym is) ∙ sym (c .if-ends-declaration .ensures tt)) in
+          let m = back .src in
+          cc;
     }
 
 pub returns-then-not-is-ascii : need.returns-then-not-is-ascii
@@ -43,11 +43,11 @@ returns-then-not-is-ascii c =
     record {
       src = i .0 ∙ back .src;
       goes = λ E A.
-        let word = back .goes E A (declaration false) in
-        let here = i .1 E A in
-        let other = declaration-other n E A p k (omega (arith, byte .0)) (ap (λ b. k && eqb b 62) (sym is) ∙ sym (c .if-ends-declaration .ensures tt)) (ap ascii (sym is) ∙ sym (c .if-not-is-ascii .ensures tt)) in
-        let m = back .src in
-        cc;
+          let word = back .goes E A (declaration false) in
+          let here = i .1 E A in
+          let other = declaration-other n E A p k (omega (arith, byte .0)) (ap (λ b. k && eqb b 62) (sym is) ∙ sym (c .if-ends-declaration .ensures tt)) (ap ascii (sym is) ∙ sym (c .if-not-is-ascii .ensures tt)) in
+          let m = back .src in
+          cc;
     }
 
 pub loop-b-again : need.loop-b-again
@@ -59,11 +59,13 @@ loop-b-again c =
     let long = ap length (i .0) in
     let byte = c .in-Some .ensures tt in
     let is = byte .1 ∙ ap (λ l. getD l p 0) (i .0) in
-    let moved = c .advance-in-Some .ensures .pos (byte .0) in
-    (c .advance-in-Some .ensures .src ∙ i .0, λ E A.
-        let here = i .1 E A in
-        let on = declaration-next n E A p k (omega (arith, byte .0)) (ap (λ b. k && eqb b 62) (sym is) ∙ sym (c .if-ends-declaration .ensures tt)) (ap ascii (sym is) ∙ sym (c .if-not-is-ascii .ensures tt)) in
-        cc)
+    let moved = c .advance-in-Some .ensures .pos (byte .0) in (
+      c .advance-in-Some .ensures .src ∙ i .0,
+      λ E A.
+          let here = i .1 E A in
+          let on = declaration-next n E A p k (omega (arith, byte .0)) (ap (λ b. k && eqb b 62) (sym is) ∙ sym (c .if-ends-declaration .ensures tt)) (ap ascii (sym is) ∙ sym (c .if-not-is-ascii .ensures tt)) in
+          cc,
+    )
 
 pub returns : need.returns
 returns c =
@@ -75,9 +77,9 @@ returns c =
     record {
       src = i .0 ∙ back .src;
       goes = λ E A.
-        let word = back .goes E A (declaration false) in
-        let here = i .1 E A in
-        let ends = declaration-ends n E A p (c .loop-b .question) (omega (arith, c .in-rest .ensures tt)) in
-        let m = back .src in
-        cc;
+          let word = back .goes E A (declaration false) in
+          let here = i .1 E A in
+          let ends = declaration-ends n E A p (c .loop-b .question) (omega (arith, c .in-rest .ensures tt)) in
+          let m = back .src in
+          cc;
     }

@@ -13,10 +13,10 @@ returns-in-rest c =
       src = i .0;
       further = i .1;
       goes = λ E A s.
-        let here = i .2 E A s in
-        let next = expecting (c .args .word .now) (c .loop-w .w-index) (c .loop-w-test .taken) s in
-        let ends = word-ends (c .args .self .now .src .now) E A (c .loop-w .self .pos) (getD (c .args .word .now) (c .loop-w .w-index) 0) (drop (c .loop-w .w-index + 1) (c .args .word .now)) s (omega (arith, c .in-rest .ensures tt)) in
-        cc;
+          let here = i .2 E A s in
+          let next = expecting (c .args .word .now) (c .loop-w .w-index) (c .loop-w-test .taken) s in
+          let ends = word-ends (c .args .self .now .src .now) E A (c .loop-w .self .pos) (getD (c .args .word .now) (c .loop-w .w-index) 0) (drop (c .loop-w .w-index + 1) (c .args .word .now)) s (omega (arith, c .in-rest .ensures tt)) in
+          cc;
     }
 
 pub returns-then-b-w : need.returns-then-b-w
@@ -29,10 +29,10 @@ returns-then-b-w c =
       src = i .0;
       further = i .1;
       goes = λ E A s.
-        let here = i .2 E A s in
-        let next = expecting (c .args .word .now) (c .loop-w .w-index) (c .loop-w-test .taken) s in
-        let other = word-other (c .args .self .now .src .now) E A (c .loop-w .self .pos) (getD (c .args .word .now) (c .loop-w .w-index) 0) (drop (c .loop-w .w-index + 1) (c .args .word .now)) s (omega (arith, byte .0)) (λ e. c .if-b-w .taken (byte .1 ∙ same ∙ e)) in
-        cc;
+          let here = i .2 E A s in
+          let next = expecting (c .args .word .now) (c .loop-w .w-index) (c .loop-w-test .taken) s in
+          let other = word-other (c .args .self .now .src .now) E A (c .loop-w .self .pos) (getD (c .args .word .now) (c .loop-w .w-index) 0) (drop (c .loop-w .w-index + 1) (c .args .word .now)) s (omega (arith, byte .0)) (λ e. c .if-b-w .taken (byte .1 ∙ same ∙ e)) in
+          cc;
     }
 
 pub loop-w-again : need.loop-w-again
@@ -41,12 +41,15 @@ loop-w-again c =
     let long = ap length (i .0) in
     let same = ap (λ l. getD l (c .loop-w .self .pos) 0) (i .0) in
     let byte = c .in-Some .ensures tt in
-    let moved = c .advance .ensures .pos (byte .0) in
-    (c .advance .ensures .src ∙ i .0, omega arith, λ E A s.
-        let here = i .2 E A s in
-        let next = expecting (c .args .word .now) (c .loop-w .w-index) (c .loop-w-test .taken) s in
-        let on = word-next (c .args .self .now .src .now) E A (c .loop-w .self .pos) (getD (c .args .word .now) (c .loop-w .w-index) 0) (drop (c .loop-w .w-index + 1) (c .args .word .now)) s (omega (arith, byte .0)) (sym same ∙ sym (byte .1) ∙ c .if-b-w .left) in
-        cc)
+    let moved = c .advance .ensures .pos (byte .0) in (
+      c .advance .ensures .src ∙ i .0,
+      omega arith,
+      λ E A s.
+          let here = i .2 E A s in
+          let next = expecting (c .args .word .now) (c .loop-w .w-index) (c .loop-w-test .taken) s in
+          let on = word-next (c .args .self .now .src .now) E A (c .loop-w .self .pos) (getD (c .args .word .now) (c .loop-w .w-index) 0) (drop (c .loop-w .w-index + 1) (c .args .word .now)) s (omega (arith, byte .0)) (sym same ∙ sym (byte .1) ∙ c .if-b-w .left) in
+          cc,
+    )
 
 pub returns : need.returns
 returns c =

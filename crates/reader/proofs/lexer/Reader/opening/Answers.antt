@@ -19,10 +19,10 @@ returns-in-Break-expect c =
       src = back .src ∙ t .ensures .src;
       further = omega (arith, t .ensures .pos, back .further);
       goes = λ E A d e a.
-        let first = to-sign (c .args .self .now .src .now) E A d e a (c .args .self .now .pos) (t .last .self .pos) (t .ensures .pos) (t .ensures .stops) in
-        let same = t .ensures .src in
-        let word = back .goes E A (quote d e a) in
-        cc;
+          let first = to-sign (c .args .self .now .src .now) E A d e a (c .args .self .now .pos) (t .last .self .pos) (t .ensures .pos) (t .ensures .stops) in
+          let same = t .ensures .src in
+          let word = back .goes E A (quote d e a) in
+          cc;
     }
 
 pub returns-in-rest : need.returns-in-rest
@@ -41,11 +41,11 @@ returns-in-rest c =
       src = u .ensures .src ∙ same;
       further = omega (arith, t .ensures .pos, u .ensures .pos, back .further);
       goes = λ E A d e a.
-        let first = to-sign m E A d e a (c .args .self .now .pos) (t .last .self .pos) (t .ensures .pos) (t .ensures .stops) in
-        let old = t .ensures .src in
-        let word = back .goes E A (quote d e a) in
-        let on = quote-ends m E A d e a at p end stops (omega (arith, c .in-rest .ensures tt)) in
-        cc;
+          let first = to-sign m E A d e a (c .args .self .now .pos) (t .last .self .pos) (t .ensures .pos) (t .ensures .stops) in
+          let old = t .ensures .src in
+          let word = back .goes E A (quote d e a) in
+          let on = quote-ends m E A d e a at p end stops (omega (arith, c .in-rest .ensures tt)) in
+          cc;
     }
 
 pub returns-then-not-is-quote : need.returns-then-not-is-quote
@@ -66,11 +66,11 @@ returns-then-not-is-quote c =
       src = u .ensures .src ∙ same;
       further = omega (arith, t .ensures .pos, u .ensures .pos, back .further);
       goes = λ E A d e a.
-        let first = to-sign m E A d e a (c .args .self .now .pos) (t .last .self .pos) (t .ensures .pos) (t .ensures .stops) in
-        let old = t .ensures .src in
-        let word = back .goes E A (quote d e a) in
-        let on = quote-other m E A d e a at p end stops (omega (arith, byte .0)) (ap quotes (sym is) ∙ sym (c .if-not-is-quote .ensures tt)) in
-        cc;
+          let first = to-sign m E A d e a (c .args .self .now .pos) (t .last .self .pos) (t .ensures .pos) (t .ensures .stops) in
+          let old = t .ensures .src in
+          let word = back .goes E A (quote d e a) in
+          let on = quote-other m E A d e a at p end stops (omega (arith, byte .0)) (ap quotes (sym is) ∙ sym (c .if-not-is-quote .ensures tt)) in
+          cc;
     }
 
 pub returns : need.returns
@@ -92,9 +92,9 @@ returns c =
       src = c .advance .ensures .src ∙ u .ensures .src ∙ same;
       further = omega (arith, t .ensures .pos, u .ensures .pos, back .further);
       goes = λ E A d e a.
-        let first = to-sign m E A d e a (c .args .self .now .pos) (t .last .self .pos) (t .ensures .pos) (t .ensures .stops) in
-        let old = t .ensures .src in
-        let word = back .goes E A (quote d e a) in
-        let on = quote-next m E A d e a at p end stops (omega (arith, byte .0)) (ap quotes (sym is) ∙ sym (c .if-not-is-quote .ensures tt)) in
-        cc;
+          let first = to-sign m E A d e a (c .args .self .now .pos) (t .last .self .pos) (t .ensures .pos) (t .ensures .stops) in
+          let old = t .ensures .src in
+          let word = back .goes E A (quote d e a) in
+          let on = quote-next m E A d e a at p end stops (omega (arith, byte .0)) (ap quotes (sym is) ∙ sym (c .if-not-is-quote .ensures tt)) in
+          cc;
     }

@@ -14,8 +14,8 @@ returns-in-rest c =
       src = t .ensures .src;
       further = omega (arith, t .ensures .pos);
       goes = λ E A d e.
-        let on = text-ends (c .args .self .now .src .now) E A d e (c .args .self .now .pos) p (t .ensures .pos) (t .ensures .stops) (omega (arith, c .in-rest .ensures tt)) in
-        cc;
+          let on = text-ends (c .args .self .now .src .now) E A d e (c .args .self .now .pos) p (t .ensures .pos) (t .ensures .stops) (omega (arith, c .in-rest .ensures tt)) in
+          cc;
     }
 
 pub returns-then-b-eq60 : need.returns-then-b-eq60
@@ -29,8 +29,8 @@ returns-then-b-eq60 c =
       src = t .ensures .src;
       further = omega (arith, t .ensures .pos);
       goes = λ E A d e.
-        let on = text-done (c .args .self .now .src .now) E A d e (c .args .self .now .pos) p (t .ensures .pos) (t .ensures .stops) (omega (arith, byte .0)) (sym is ∙ c .if-b-eq60 .taken) in
-        cc;
+          let on = text-done (c .args .self .now .src .now) E A d e (c .args .self .now .pos) p (t .ensures .pos) (t .ensures .stops) (omega (arith, byte .0)) (sym is ∙ c .if-b-eq60 .taken) in
+          cc;
     }
 
 pub returns-then-b-eq38 : need.returns-then-b-eq38
@@ -44,8 +44,8 @@ returns-then-b-eq38 c =
       src = t .ensures .src;
       further = omega (arith, t .ensures .pos);
       goes = λ E A d e.
-        let on = text-amp (c .args .self .now .src .now) E A d e (c .args .self .now .pos) p (t .ensures .pos) (t .ensures .stops) (omega (arith, byte .0)) (λ e. c .if-b-eq60 .left (is ∙ e)) (sym is ∙ c .if-b-eq38 .taken) in
-        cc;
+          let on = text-amp (c .args .self .now .src .now) E A d e (c .args .self .now .pos) p (t .ensures .pos) (t .ensures .stops) (omega (arith, byte .0)) (λ e. c .if-b-eq60 .left (is ∙ e)) (sym is ∙ c .if-b-eq38 .taken) in
+          cc;
     }
 
 pub returns : need.returns
@@ -59,6 +59,6 @@ returns c =
       src = t .ensures .src;
       further = omega (arith, t .ensures .pos);
       goes = λ E A d e.
-        let on = text-other (c .args .self .now .src .now) E A d e (c .args .self .now .pos) p (t .ensures .pos) (t .ensures .stops) (omega (arith, byte .0)) (λ e. c .if-b-eq60 .left (is ∙ e)) (λ e. c .if-b-eq38 .left (is ∙ e)) in
-        cc;
+          let on = text-other (c .args .self .now .src .now) E A d e (c .args .self .now .pos) p (t .ensures .pos) (t .ensures .stops) (omega (arith, byte .0)) (λ e. c .if-b-eq60 .left (is ∙ e)) (λ e. c .if-b-eq38 .left (is ∙ e)) in
+          cc;
     }

@@ -23,9 +23,9 @@ returns-in-rest c =
       src = t .ensures .src ∙ back .src;
       further = omega (arith, t .ensures .pos, back .further);
       goes = λ E A d e a.
-        let first = back .goes E A d e a in
-        let on = value-ends m E A d e a q at p end stops (omega (arith, c .in-rest .ensures tt)) in
-        cc;
+          let first = back .goes E A d e a in
+          let on = value-ends m E A d e a q at p end stops (omega (arith, c .in-rest .ensures tt)) in
+          cc;
     }
 
 pub returns-then-b-quote : need.returns-then-b-quote
@@ -46,9 +46,9 @@ returns-then-b-quote c =
       src = c .advance .ensures .src ∙ t .ensures .src ∙ back .src;
       further = omega (arith, t .ensures .pos, back .further);
       goes = λ E A d e a.
-        let first = back .goes E A d e a in
-        let on = value-done m E A d e a q at p end stops (omega (arith, byte .0)) (sym is ∙ c .if-b-quote .taken) in
-        cc;
+          let first = back .goes E A d e a in
+          let on = value-done m E A d e a q at p end stops (omega (arith, byte .0)) (sym is ∙ c .if-b-quote .taken) in
+          cc;
     }
 
 pub returns-then-b-eq38 : need.returns-then-b-eq38
@@ -68,9 +68,9 @@ returns-then-b-eq38 c =
       src = t .ensures .src ∙ back .src;
       further = omega (arith, t .ensures .pos, back .further);
       goes = λ E A d e a.
-        let first = back .goes E A d e a in
-        let on = value-amp m E A d e a q at p end stops (omega (arith, byte .0)) (λ e. c .if-b-quote .left (is ∙ e)) (sym is ∙ c .if-b-eq38 .taken) in
-        cc;
+          let first = back .goes E A d e a in
+          let on = value-amp m E A d e a q at p end stops (omega (arith, byte .0)) (λ e. c .if-b-quote .left (is ∙ e)) (sym is ∙ c .if-b-eq38 .taken) in
+          cc;
     }
 
 pub returns : need.returns
@@ -90,7 +90,7 @@ returns c =
       src = t .ensures .src ∙ back .src;
       further = omega (arith, t .ensures .pos, back .further);
       goes = λ E A d e a.
-        let first = back .goes E A d e a in
-        let on = value-other m E A d e a q at p end stops (omega (arith, byte .0)) (λ e. c .if-b-quote .left (is ∙ e)) (λ e. c .if-b-eq38 .left (is ∙ e)) in
-        cc;
+          let first = back .goes E A d e a in
+          let on = value-other m E A d e a q at p end stops (omega (arith, byte .0)) (λ e. c .if-b-quote .left (is ∙ e)) (λ e. c .if-b-eq38 .left (is ∙ e)) in
+          cc;
     }

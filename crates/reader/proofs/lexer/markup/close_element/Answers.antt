@@ -22,8 +22,8 @@ returns-in-rest c = record {
   src = refl;
   further = omega arith;
   goes = λ E A xs.
-    let ends = close-ends (c .args .reader .now .src .now) E A (document (held (c .args .elements .now)) xs (c .args .nesting .now .inner) (c .args .nesting .now .depth)) (c .args .reader .now .pos) (omega (arith, c .in-rest .ensures tt)) in
-    cc;
+      let ends = close-ends (c .args .reader .now .src .now) E A (document (held (c .args .elements .now)) xs (c .args .nesting .now .inner) (c .args .nesting .now .depth)) (c .args .reader .now .pos) (omega (arith, c .in-rest .ensures tt)) in
+      cc;
 }
 
 pub returns-then-not-is-first : need.returns-then-not-is-first
@@ -33,8 +33,8 @@ returns-then-not-is-first c =
       src = refl;
       further = omega arith;
       goes = λ E A xs.
-        let other = close-other (c .args .reader .now .src .now) E A (document (held (c .args .elements .now)) xs (c .args .nesting .now .inner) (c .args .nesting .now .depth)) (c .args .reader .now .pos) (byte .0) (ap begins (sym (byte .1)) ∙ sym (c .if-not-is-first .ensures tt)) in
-        cc;
+          let other = close-other (c .args .reader .now .src .now) E A (document (held (c .args .elements .now)) xs (c .args .nesting .now .inner) (c .args .nesting .now .depth)) (c .args .reader .now .pos) (byte .0) (ap begins (sym (byte .1)) ∙ sym (c .if-not-is-first .ensures tt)) in
+          cc;
     }
 
 pub returns-then-not-same : need.returns-then-not-same
@@ -49,12 +49,12 @@ returns-then-not-same c =
       src = t .ensures .src;
       further = omega (arith, t .ensures .pos);
       goes = λ E A xs.
-        let d = document (held (c .args .elements .now)) xs (c .args .nesting .now .inner) (c .args .nesting .now .depth) in
-        let first = close-name m E A d p (byte .0) begun in
-        let is = names-same m _ (held (c .args .elements .now)) _ (c .args .nesting .now .inner) _ _ _ _ false (t .ensures .src) (c .rows .ensures) (c .element-at-open .ensures) (c .part .ensures) (t .ensures .text) (c .if-not-same .ensures tt) in
-        let other = closing-other m E A d p end (t .ensures .pos) (t .ensures .stops) is in
-        let at = t .ensures .at in
-        cc;
+          let d = document (held (c .args .elements .now)) xs (c .args .nesting .now .inner) (c .args .nesting .now .depth) in
+          let first = close-name m E A d p (byte .0) begun in
+          let is = names-same m _ (held (c .args .elements .now)) _ (c .args .nesting .now .inner) _ _ _ _ false (t .ensures .src) (c .rows .ensures) (c .element-at-open .ensures) (c .part .ensures) (t .ensures .text) (c .if-not-same .ensures tt) in
+          let other = closing-other m E A d p end (t .ensures .pos) (t .ensures .stops) is in
+          let at = t .ensures .at in
+          cc;
     }
 
 pub returns-in-Break-expect : need.returns-in-Break-expect
@@ -76,14 +76,14 @@ returns-in-Break-expect c =
       src = back .src ∙ same;
       further = omega (arith, t .ensures .pos, u .ensures .pos, back .further);
       goes = λ E A xs.
-        let d = document (held (c .args .elements .now)) xs (c .args .nesting .now .inner) (c .args .nesting .now .depth) in
-        let first = close-name m E A d p (byte .0) begun in
-        let is = names-same m _ (held (c .args .elements .now)) _ (c .args .nesting .now .inner) _ _ _ _ true (t .ensures .src) (c .rows .ensures) (c .element-at-open .ensures) (c .part .ensures) (t .ensures .text) (c .if-not-same .ensures tt) in
-        let on = closing-on m E A d p end (t .ensures .pos) (t .ensures .stops) is in
-        let blanks = to-closed m E A d end q far stops in
-        let word = back .goes E A (outside (shut d)) in
-        let bytes = same in
-        cc;
+          let d = document (held (c .args .elements .now)) xs (c .args .nesting .now .inner) (c .args .nesting .now .depth) in
+          let first = close-name m E A d p (byte .0) begun in
+          let is = names-same m _ (held (c .args .elements .now)) _ (c .args .nesting .now .inner) _ _ _ _ true (t .ensures .src) (c .rows .ensures) (c .element-at-open .ensures) (c .part .ensures) (t .ensures .text) (c .if-not-same .ensures tt) in
+          let on = closing-on m E A d p end (t .ensures .pos) (t .ensures .stops) is in
+          let blanks = to-closed m E A d end q far stops in
+          let word = back .goes E A (outside (shut d)) in
+          let bytes = same in
+          cc;
     }
 
 pub returns : need.returns
@@ -104,14 +104,14 @@ returns c =
       src = back .src ∙ same;
       further = omega (arith, t .ensures .pos, u .ensures .pos, back .further);
       goes = λ E A xs.
-        let d = document (held (c .args .elements .now)) xs (c .args .nesting .now .inner) (c .args .nesting .now .depth) in
-        let first = close-name m E A d p (byte .0) begun in
-        let is = names-same m _ (held (c .args .elements .now)) _ (c .args .nesting .now .inner) _ _ _ _ true (t .ensures .src) (c .rows .ensures) (c .element-at-open .ensures) (c .part .ensures) (t .ensures .text) (c .if-not-same .ensures tt) in
-        let on = closing-on m E A d p end (t .ensures .pos) (t .ensures .stops) is in
-        let blanks = to-closed m E A d end q far stops in
-        let word = back .goes E A (outside (shut d)) in
-        let bytes = same in
-        let inner = c .element-at-open .ensures in
-        let rows = c .rows .ensures in
-        cc;
+          let d = document (held (c .args .elements .now)) xs (c .args .nesting .now .inner) (c .args .nesting .now .depth) in
+          let first = close-name m E A d p (byte .0) begun in
+          let is = names-same m _ (held (c .args .elements .now)) _ (c .args .nesting .now .inner) _ _ _ _ true (t .ensures .src) (c .rows .ensures) (c .element-at-open .ensures) (c .part .ensures) (t .ensures .text) (c .if-not-same .ensures tt) in
+          let on = closing-on m E A d p end (t .ensures .pos) (t .ensures .stops) is in
+          let blanks = to-closed m E A d end q far stops in
+          let word = back .goes E A (outside (shut d)) in
+          let bytes = same in
+          let inner = c .element-at-open .ensures in
+          let rows = c .rows .ensures in
+          cc;
     }

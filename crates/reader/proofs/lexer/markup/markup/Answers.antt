@@ -50,7 +50,7 @@ returns-then-b-eq33 c =
       elements = kept-same (c .args .elements .now);
       attributes = kept-same (c .args .attributes .now);
       goes = angle-comment m E A d p (byte .0) (is ∙ c .if-b-eq33 .taken)
-        ∙ carry m _ E A (word 45 (45 ∷ []) (comment 0 d)) (p + 1) _ (c .comment .last .self .pos) (c .comment .result) (λ _. outside d) moved (c .advance .ensures .src) (back .goes E A d);
+          ∙ carry m _ E A (word 45 (45 ∷ []) (comment 0 d)) (p + 1) _ (c .comment .last .self .pos) (c .comment .result) (λ _. outside d) moved (c .advance .ensures .src) (back .goes E A d);
     }
 
 pub returns-then-nesting-eq0 : need.returns-then-nesting-eq0
@@ -92,7 +92,7 @@ returns-then-b-eq47 c =
       elements = kept-same (c .args .elements .now);
       attributes = kept-same (c .args .attributes .now);
       goes = angle-close m E A d p (byte .0) (λ y. c .if-b-eq33 .left (sym is ∙ y)) (is ∙ c .if-b-eq47 .taken) (lt-ltb 0 (c .args .nesting .now .depth) (omega (arith, c .if-nesting-eq0 .left)))
-        ∙ carry m _ E A (close d) (p + 1) _ (c .close-element .last .reader .pos) (c .close-element .result) (λ _. outside (document es xs (c .close-element .last .nesting .inner) (c .close-element .last .nesting .depth))) moved (moves .src) (back .goes E A xs);
+          ∙ carry m _ E A (close d) (p + 1) _ (c .close-element .last .reader .pos) (c .close-element .result) (λ _. outside (document es xs (c .close-element .last .nesting .inner) (c .close-element .last .nesting .depth))) moved (moves .src) (back .goes E A xs);
     }
 
 pub returns-then-not-is-first : need.returns-then-not-is-first

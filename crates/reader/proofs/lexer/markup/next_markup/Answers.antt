@@ -22,8 +22,8 @@ returns-then-is-finished c =
       src = t .ensures .src;
       further = λ e. absurd (clash e);
       goes = λ E A d k rows.
-        let far = t .ensures .pos ∙ ap (λ n. at + leading (passes (ltb 0 n)) (drop at m)) (sym k) in
-        outside-done m E A d at p far (omega (arith, c .in-rest .ensures tt)) (ap (λ n. not (ltb 0 n) && not (eqb (length (d .elements)) 0)) k ∙ ap (λ n. not (ltb 0 (c .args .depth)) && not (eqb n 0)) rows ∙ sym (c .if-is-finished .ensures tt));
+          let far = t .ensures .pos ∙ ap (λ n. at + leading (passes (ltb 0 n)) (drop at m)) (sym k) in
+          outside-done m E A d at p far (omega (arith, c .in-rest .ensures tt)) (ap (λ n. not (ltb 0 n) && not (eqb (length (d .elements)) 0)) k ∙ ap (λ n. not (ltb 0 (c .args .depth)) && not (eqb n 0)) rows ∙ sym (c .if-is-finished .ensures tt));
     }
 
 pub returns-in-rest : need.returns-in-rest
@@ -37,9 +37,9 @@ returns-in-rest c =
       src = t .ensures .src;
       further = omega (arith, t .ensures .pos);
       goes = λ E A d k rows.
-        let far = t .ensures .pos ∙ ap (λ n. at + leading (passes (ltb 0 n)) (drop at m)) (sym k) in
-        let ends = outside-ends m E A d at p far (omega (arith, c .in-rest .ensures tt)) (ap (λ n. not (ltb 0 n) && not (eqb (length (d .elements)) 0)) k ∙ ap (λ n. not (ltb 0 (c .args .depth)) && not (eqb n 0)) rows ∙ sym (c .if-is-finished .ensures tt)) in
-        cc;
+          let far = t .ensures .pos ∙ ap (λ n. at + leading (passes (ltb 0 n)) (drop at m)) (sym k) in
+          let ends = outside-ends m E A d at p far (omega (arith, c .in-rest .ensures tt)) (ap (λ n. not (ltb 0 n) && not (eqb (length (d .elements)) 0)) k ∙ ap (λ n. not (ltb 0 (c .args .depth)) && not (eqb n 0)) rows ∙ sym (c .if-is-finished .ensures tt)) in
+          cc;
     }
 
 pub returns-then-b-eq60 : need.returns-then-b-eq60
@@ -57,9 +57,9 @@ returns-then-b-eq60 c =
       src = c .advance .ensures .src ∙ t .ensures .src;
       further = λ _. omega (arith, t .ensures .pos);
       goes = λ E A d k rows.
-        let far = t .ensures .pos ∙ ap (λ n. at + leading (passes (ltb 0 n)) (drop at m)) (sym k) in
-        let on = outside-angle m E A d at p far lt (ap (λ n. passes (ltb 0 n) (getD m p 0)) k ∙ t .ensures .stops lt) (is ∙ c .if-b-eq60 .taken) in
-        cc;
+          let far = t .ensures .pos ∙ ap (λ n. at + leading (passes (ltb 0 n)) (drop at m)) (sym k) in
+          let on = outside-angle m E A d at p far lt (ap (λ n. passes (ltb 0 n) (getD m p 0)) k ∙ t .ensures .stops lt) (is ∙ c .if-b-eq60 .taken) in
+          cc;
     }
 
 pub returns : need.returns
@@ -76,8 +76,8 @@ returns c =
       src = t .ensures .src;
       further = omega (arith, t .ensures .pos);
       goes = λ E A d k rows.
-        let far = t .ensures .pos ∙ ap (λ n. at + leading (passes (ltb 0 n)) (drop at m)) (sym k) in
-        let other = outside-other m E A d at p far lt (ap (λ n. passes (ltb 0 n) (getD m p 0)) k ∙ t .ensures .stops lt) (λ y. c .if-b-eq60 .left (sym is ∙ y)) in
-        let why = ap (λ n. cond (ltb 0 n && eqb (getD m p 0) 38) Ampersand Grammar) k ∙ ap (λ b. cond (ltb 0 (c .args .depth) && eqb b 38) Ampersand Grammar) is ∙ sym (c .stray .ensures) in
-        cc;
+          let far = t .ensures .pos ∙ ap (λ n. at + leading (passes (ltb 0 n)) (drop at m)) (sym k) in
+          let other = outside-other m E A d at p far lt (ap (λ n. passes (ltb 0 n) (getD m p 0)) k ∙ t .ensures .stops lt) (λ y. c .if-b-eq60 .left (sym is ∙ y)) in
+          let why = ap (λ n. cond (ltb 0 n && eqb (getD m p 0) 38) Ampersand Grammar) k ∙ ap (λ b. cond (ltb 0 (c .args .depth) && eqb b 38) Ampersand Grammar) is ∙ sym (c .stray .ensures) in
+          cc;
     }

@@ -26,8 +26,8 @@ returns c =
     record {
       src = c .declaration .ensures .src ∙ same;
       goes = λ at E A.
-        let first = one .pos (omega arith) in
-        let second = two .pos (omega (arith, ap length (one .src))) in
-        start-declared m E A long (eqb-true _ 60 (both .0)) (eqb-true _ 63 (both .1))
-        ∙ carry m _ E A (word 120 (109 ∷ 108 ∷ []) (declaration false)) 2 _ (c .declaration .last .self .pos) (c .declaration .result) (λ _. outside nothing) (omega arith) same (c .declaration .ensures .goes E A);
+          let first = one .pos (omega arith) in
+          let second = two .pos (omega (arith, ap length (one .src))) in
+          start-declared m E A long (eqb-true _ 60 (both .0)) (eqb-true _ 63 (both .1))
+          ∙ carry m _ E A (word 120 (109 ∷ 108 ∷ []) (declaration false)) 2 _ (c .declaration .last .self .pos) (c .declaration .result) (λ _. outside nothing) (omega arith) same (c .declaration .ensures .goes E A);
     }

@@ -19,9 +19,9 @@ returns-then-is-full c =
       further = omega (arith, t .ensures .pos);
       kept = kept-same (c .args .attributes .now);
       goes = λ E es o k e row.
-        let at = t .ensures .at in
-        let full = attribute-full (c .args .reader .now .src .now) E (capacity (c .args .attributes .now)) (document es (held (c .args .attributes .now)) o k) (c .args .reader .now .pos) (t .last .self .pos) (t .ensures .pos) (t .ensures .stops) e (sym (c .if-is-full .ensures tt)) in
-        cc;
+          let at = t .ensures .at in
+          let full = attribute-full (c .args .reader .now .src .now) E (capacity (c .args .attributes .now)) (document es (held (c .args .attributes .now)) o k) (c .args .reader .now .pos) (t .last .self .pos) (t .ensures .pos) (t .ensures .stops) e (sym (c .if-is-full .ensures tt)) in
+          cc;
     }
 
 pub returns-then-is-twice : need.returns-then-is-twice
@@ -33,10 +33,10 @@ returns-then-is-twice c =
       further = omega (arith, t .ensures .pos);
       kept = kept-same (c .args .attributes .now);
       goes = λ E es o k e row.
-        let at = t .ensures .at in
-        let is = twice-same m _ _ _ (length es) _ (held (c .args .attributes .now)) _ true (t .ensures .src) (t .ensures .text) row (c .rows .ensures) (c .if-is-twice .ensures tt) in
-        let two = attribute-twice m E (capacity (c .args .attributes .now)) (document es (held (c .args .attributes .now)) o k) (c .args .reader .now .pos) (t .last .self .pos) (t .ensures .pos) (t .ensures .stops) e (sym (c .if-is-full .ensures tt)) is in
-        cc;
+          let at = t .ensures .at in
+          let is = twice-same m _ _ _ (length es) _ (held (c .args .attributes .now)) _ true (t .ensures .src) (t .ensures .text) row (c .rows .ensures) (c .if-is-twice .ensures tt) in
+          let two = attribute-twice m E (capacity (c .args .attributes .now)) (document es (held (c .args .attributes .now)) o k) (c .args .reader .now .pos) (t .last .self .pos) (t .ensures .pos) (t .ensures .stops) e (sym (c .if-is-full .ensures tt)) is in
+          cc;
     }
 
 pub returns-in-Break-value : need.returns-in-Break-value
@@ -50,11 +50,11 @@ returns-in-Break-value c =
       further = omega (arith, t .ensures .pos, back .further);
       kept = kept-same (c .args .attributes .now);
       goes = λ E es o k e row.
-        let is = twice-same m _ _ _ (length es) _ (held (c .args .attributes .now)) _ false (t .ensures .src) (t .ensures .text) row (c .rows .ensures) (c .if-is-twice .ensures tt) in
-        let on = attribute-on m E (capacity (c .args .attributes .now)) (document es (held (c .args .attributes .now)) o k) (c .args .reader .now .pos) (t .last .self .pos) (t .ensures .pos) (t .ensures .stops) e (sym (c .if-is-full .ensures tt)) is in
-        let value = back .goes E (capacity (c .args .attributes .now)) (document es (held (c .args .attributes .now)) o k) e (span (c .args .reader .now .pos) (t .last .self .pos - c .args .reader .now .pos)) in
-        let same = t .ensures .src in
-        cc;
+          let is = twice-same m _ _ _ (length es) _ (held (c .args .attributes .now)) _ false (t .ensures .src) (t .ensures .text) row (c .rows .ensures) (c .if-is-twice .ensures tt) in
+          let on = attribute-on m E (capacity (c .args .attributes .now)) (document es (held (c .args .attributes .now)) o k) (c .args .reader .now .pos) (t .last .self .pos) (t .ensures .pos) (t .ensures .stops) e (sym (c .if-is-full .ensures tt)) is in
+          let value = back .goes E (capacity (c .args .attributes .now)) (document es (held (c .args .attributes .now)) o k) e (span (c .args .reader .now .pos) (t .last .self .pos - c .args .reader .now .pos)) in
+          let same = t .ensures .src in
+          cc;
     }
 
 pub returns-in-Ok : need.returns-in-Ok
@@ -68,14 +68,14 @@ returns-in-Ok c =
       further = omega (arith, t .ensures .pos, back .further);
       kept = record { capacity = pushed .capacity; lent = pushed .lent; clean = pushed .clean };
       goes = λ E es o k e row.
-        let is = twice-same m _ _ _ (length es) _ (held (c .args .attributes .now)) _ false (t .ensures .src) (t .ensures .text) row (c .rows .ensures) (c .if-is-twice .ensures tt) in
-        let on = attribute-on m E (capacity (c .args .attributes .now)) (document es (held (c .args .attributes .now)) o k) (c .args .reader .now .pos) (t .last .self .pos) (t .ensures .pos) (t .ensures .stops) e (sym (c .if-is-full .ensures tt)) is in
-        let value = back .goes E (capacity (c .args .attributes .now)) (document es (held (c .args .attributes .now)) o k) e (span (c .args .reader .now .pos) (t .last .self .pos - c .args .reader .now .pos)) in
-        let same = t .ensures .src in
-        let rows = pushed .answer .1 in
-        let name = c .span .ensures in
-        let part = c .span-2 .ensures in
-        let at = t .ensures .at in
-        let len = t .ensures .len in
-        cc;
+          let is = twice-same m _ _ _ (length es) _ (held (c .args .attributes .now)) _ false (t .ensures .src) (t .ensures .text) row (c .rows .ensures) (c .if-is-twice .ensures tt) in
+          let on = attribute-on m E (capacity (c .args .attributes .now)) (document es (held (c .args .attributes .now)) o k) (c .args .reader .now .pos) (t .last .self .pos) (t .ensures .pos) (t .ensures .stops) e (sym (c .if-is-full .ensures tt)) is in
+          let value = back .goes E (capacity (c .args .attributes .now)) (document es (held (c .args .attributes .now)) o k) e (span (c .args .reader .now .pos) (t .last .self .pos - c .args .reader .now .pos)) in
+          let same = t .ensures .src in
+          let rows = pushed .answer .1 in
+          let name = c .span .ensures in
+          let part = c .span-2 .ensures in
+          let at = t .ensures .at in
+          let len = t .ensures .len in
+          cc;
     }

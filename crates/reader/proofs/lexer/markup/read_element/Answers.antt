@@ -35,8 +35,8 @@ returns-then-nesting-ge-LEVELS c =
       elements = kept-same (c .args .elements .now);
       attributes = kept-same (c .args .attributes .now);
       goes =
-        let deep = naming-deep m E A d p end (t .ensures .pos) (t .ensures .stops) (le-leb 16 k (c .if-nesting-ge-LEVELS .taken)) in
-        cc;
+          let deep = naming-deep m E A d p end (t .ensures .pos) (t .ensures .stops) (le-leb 16 k (c .if-nesting-ge-LEVELS .taken)) in
+          cc;
     }
 
 pub returns-then-is-full : need.returns-then-is-full
@@ -59,8 +59,8 @@ returns-then-is-full c =
       elements = kept-same (c .args .elements .now);
       attributes = kept-same (c .args .attributes .now);
       goes =
-        naming-full m E A d p end (t .ensures .pos) (t .ensures .stops) (lt-leb 16 k (c .if-nesting-ge-LEVELS .left)) (sym (c .if-is-full .ensures tt))
-        ∙ ap (λ b. refused ElementsFull b) (sym (byte ∙ ap (λ b. b - 1) at));
+          naming-full m E A d p end (t .ensures .pos) (t .ensures .stops) (lt-leb 16 k (c .if-nesting-ge-LEVELS .left)) (sym (c .if-is-full .ensures tt))
+          ∙ ap (λ b. refused ElementsFull b) (sym (byte ∙ ap (λ b. b - 1) at));
     }
 
 pub returns-in-Break-empty : need.returns-in-Break-empty
@@ -85,11 +85,11 @@ returns-in-Break-empty c =
       elements = kept-same (c .args .elements .now);
       attributes = back .kept;
       goes =
-        let on = naming-on m E A d p end (t .ensures .pos) (t .ensures .stops) (lt-leb 16 k (c .if-nesting-ge-LEVELS .left)) (sym (c .if-is-full .ensures tt)) in
-        let bytes = t .ensures .src in
-        let len = t .ensures .len in
-        let tags = back .goes E es o k (span p (end - p)) (sym (c .len-row .ensures)) in
-        cc;
+          let on = naming-on m E A d p end (t .ensures .pos) (t .ensures .stops) (lt-leb 16 k (c .if-nesting-ge-LEVELS .left)) (sym (c .if-is-full .ensures tt)) in
+          let bytes = t .ensures .src in
+          let len = t .ensures .len in
+          let tags = back .goes E es o k (span p (end - p)) (sym (c .len-row .ensures)) in
+          cc;
     }
 
 pub returns-then-empty : need.returns-then-empty

@@ -26,10 +26,10 @@ returns-in-rest c =
       further = omega (arith, t .ensures .pos);
       kept = kept-same (c .args .attributes .now);
       goes = λ E es o k e row.
-        let d = document es (held (c .args .attributes .now)) o k in
-        let first = to-tag m E room d e at p (t .ensures .pos) in
-        let ends = tag-ends m E room d e (ltb 0 (p - at)) p (omega (arith, c .in-rest .ensures tt)) in
-        cc;
+          let d = document es (held (c .args .attributes .now)) o k in
+          let first = to-tag m E room d e at p (t .ensures .pos) in
+          let ends = tag-ends m E room d e (ltb 0 (p - at)) p (omega (arith, c .in-rest .ensures tt)) in
+          cc;
     }
 
 pub returns-then-b-eq62 : need.returns-then-b-eq62
@@ -49,10 +49,10 @@ returns-then-b-eq62 c =
       further = omega (arith, t .ensures .pos);
       kept = kept-same (c .args .attributes .now);
       goes = λ E es o k e row.
-        let d = document es (held (c .args .attributes .now)) o k in
-        let first = to-tag m E room d e at p (t .ensures .pos) in
-        let on = tag-open m E room d e (ltb 0 (p - at)) p lt (t .ensures .stops lt) (sym is ∙ c .if-b-eq62 .taken) in
-        cc;
+          let d = document es (held (c .args .attributes .now)) o k in
+          let first = to-tag m E room d e at p (t .ensures .pos) in
+          let on = tag-open m E room d e (ltb 0 (p - at)) p lt (t .ensures .stops lt) (sym is ∙ c .if-b-eq62 .taken) in
+          cc;
     }
 
 pub returns-in-Break-expect : need.returns-in-Break-expect
@@ -75,12 +75,12 @@ returns-in-Break-expect c =
       further = omega (arith, t .ensures .pos, back .further);
       kept = kept-same (c .args .attributes .now);
       goes = λ E es o k e row.
-        let d = document es (held (c .args .attributes .now)) o k in
-        let first = to-tag m E room d e at p (t .ensures .pos) in
-        let on = tag-slash m E room d e (ltb 0 (p - at)) p lt (t .ensures .stops lt) (λ y. c .if-b-eq62 .left (is ∙ y)) (sym is ∙ c .if-b-eq47 .taken) in
-        let same = moves .src ∙ t .ensures .src in
-        let word = back .goes E room (outside (emptied d e)) in
-        cc;
+          let d = document es (held (c .args .attributes .now)) o k in
+          let first = to-tag m E room d e at p (t .ensures .pos) in
+          let on = tag-slash m E room d e (ltb 0 (p - at)) p lt (t .ensures .stops lt) (λ y. c .if-b-eq62 .left (is ∙ y)) (sym is ∙ c .if-b-eq47 .taken) in
+          let same = moves .src ∙ t .ensures .src in
+          let word = back .goes E room (outside (emptied d e)) in
+          cc;
     }
 
 pub returns-then-b-eq47 : need.returns-then-b-eq47
@@ -102,12 +102,12 @@ returns-then-b-eq47 c =
       further = omega (arith, t .ensures .pos, back .further);
       kept = kept-same (c .args .attributes .now);
       goes = λ E es o k e row.
-        let d = document es (held (c .args .attributes .now)) o k in
-        let first = to-tag m E room d e at p (t .ensures .pos) in
-        let on = tag-slash m E room d e (ltb 0 (p - at)) p lt (t .ensures .stops lt) (λ y. c .if-b-eq62 .left (is ∙ y)) (sym is ∙ c .if-b-eq47 .taken) in
-        let same = moves .src ∙ t .ensures .src in
-        let word = back .goes E room (outside (emptied d e)) in
-        cc;
+          let d = document es (held (c .args .attributes .now)) o k in
+          let first = to-tag m E room d e at p (t .ensures .pos) in
+          let on = tag-slash m E room d e (ltb 0 (p - at)) p lt (t .ensures .stops lt) (λ y. c .if-b-eq62 .left (is ∙ y)) (sym is ∙ c .if-b-eq47 .taken) in
+          let same = moves .src ∙ t .ensures .src in
+          let word = back .goes E room (outside (emptied d e)) in
+          cc;
     }
 
 pub returns-then-gap-eq0 : need.returns-then-gap-eq0
@@ -126,10 +126,10 @@ returns-then-gap-eq0 c =
       further = omega (arith, t .ensures .pos);
       kept = kept-same (c .args .attributes .now);
       goes = λ E es o k e row.
-        let d = document es (held (c .args .attributes .now)) o k in
-        let first = to-tag m E room d e at p (t .ensures .pos) in
-        let on = tag-other m E room d e (ltb 0 (p - at)) p lt (t .ensures .stops lt) (λ y. c .if-b-eq62 .left (is ∙ y)) (λ y. c .if-b-eq47 .left (is ∙ y)) (and-left (ltb 0 (p - at)) (begins (getD m p 0)) (le-ltb 0 (p - at) (omega (arith, t .ensures .len, c .if-gap-eq0 .taken)))) in
-        cc;
+          let d = document es (held (c .args .attributes .now)) o k in
+          let first = to-tag m E room d e at p (t .ensures .pos) in
+          let on = tag-other m E room d e (ltb 0 (p - at)) p lt (t .ensures .stops lt) (λ y. c .if-b-eq62 .left (is ∙ y)) (λ y. c .if-b-eq47 .left (is ∙ y)) (and-left (ltb 0 (p - at)) (begins (getD m p 0)) (le-ltb 0 (p - at) (omega (arith, t .ensures .len, c .if-gap-eq0 .taken)))) in
+          cc;
     }
 
 pub returns-then-not-is-first : need.returns-then-not-is-first
@@ -148,10 +148,10 @@ returns-then-not-is-first c =
       further = omega (arith, t .ensures .pos);
       kept = kept-same (c .args .attributes .now);
       goes = λ E es o k e row.
-        let d = document es (held (c .args .attributes .now)) o k in
-        let first = to-tag m E room d e at p (t .ensures .pos) in
-        let on = tag-other m E room d e (ltb 0 (p - at)) p lt (t .ensures .stops lt) (λ y. c .if-b-eq62 .left (is ∙ y)) (λ y. c .if-b-eq47 .left (is ∙ y)) (and-right (ltb 0 (p - at)) (begins (getD m p 0)) (ap begins (sym is) ∙ sym (c .if-not-is-first .ensures tt))) in
-        cc;
+          let d = document es (held (c .args .attributes .now)) o k in
+          let first = to-tag m E room d e at p (t .ensures .pos) in
+          let on = tag-other m E room d e (ltb 0 (p - at)) p lt (t .ensures .stops lt) (λ y. c .if-b-eq62 .left (is ∙ y)) (λ y. c .if-b-eq47 .left (is ∙ y)) (and-right (ltb 0 (p - at)) (begins (getD m p 0)) (ap begins (sym is) ∙ sym (c .if-not-is-first .ensures tt))) in
+          cc;
     }
 
 pub returns-in-Break-read-attribute : need.returns-in-Break-read-attribute
@@ -173,13 +173,13 @@ returns-in-Break-read-attribute c =
       further = omega (arith, t .ensures .pos, back .further);
       kept = back .kept;
       goes = λ E es o k e row.
-        let d = document es (held (c .args .attributes .now)) o k in
-        let first = to-tag m E room d e at p (t .ensures .pos) in
-        let begun : begins (getD m p 0) ≡ true = ap begins (sym is) ∙ sym (c .if-not-is-first .ensures tt) in
-        let on = tag-attribute m E room d e (ltb 0 (p - at)) p lt (t .ensures .stops lt) (λ y. c .if-b-eq62 .left (is ∙ y)) (λ y. c .if-b-eq47 .left (is ∙ y)) (and-from (ltb 0 (p - at)) (begins (getD m p 0)) (lt-ltb 0 (p - at) spaced) begun) begun in
-        let same = t .ensures .src in
-        let read = back .goes E es o k e row in
-        cc;
+          let d = document es (held (c .args .attributes .now)) o k in
+          let first = to-tag m E room d e at p (t .ensures .pos) in
+          let begun : begins (getD m p 0) ≡ true = ap begins (sym is) ∙ sym (c .if-not-is-first .ensures tt) in
+          let on = tag-attribute m E room d e (ltb 0 (p - at)) p lt (t .ensures .stops lt) (λ y. c .if-b-eq62 .left (is ∙ y)) (λ y. c .if-b-eq47 .left (is ∙ y)) (and-from (ltb 0 (p - at)) (begins (getD m p 0)) (lt-ltb 0 (p - at) spaced) begun) begun in
+          let same = t .ensures .src in
+          let read = back .goes E es o k e row in
+          cc;
     }
 
 pub returns : need.returns
@@ -200,11 +200,11 @@ returns c =
       further = omega (arith, t .ensures .pos, back .further);
       kept = back .kept;
       goes = λ E es o k e row.
-        let d = document es (held (c .args .attributes .now)) o k in
-        let first = to-tag m E room d e at p (t .ensures .pos) in
-        let begun : begins (getD m p 0) ≡ true = ap begins (sym is) ∙ sym (c .if-not-is-first .ensures tt) in
-        let on = tag-attribute m E room d e (ltb 0 (p - at)) p lt (t .ensures .stops lt) (λ y. c .if-b-eq62 .left (is ∙ y)) (λ y. c .if-b-eq47 .left (is ∙ y)) (and-from (ltb 0 (p - at)) (begins (getD m p 0)) (lt-ltb 0 (p - at) spaced) begun) begun in
-        let same = t .ensures .src in
-        let read = back .goes E es o k e row in
-        cc;
+          let d = document es (held (c .args .attributes .now)) o k in
+          let first = to-tag m E room d e at p (t .ensures .pos) in
+          let begun : begins (getD m p 0) ≡ true = ap begins (sym is) ∙ sym (c .if-not-is-first .ensures tt) in
+          let on = tag-attribute m E room d e (ltb 0 (p - at)) p lt (t .ensures .stops lt) (λ y. c .if-b-eq62 .left (is ∙ y)) (λ y. c .if-b-eq47 .left (is ∙ y)) (and-from (ltb 0 (p - at)) (begins (getD m p 0)) (lt-ltb 0 (p - at) spaced) begun) begun in
+          let same = t .ensures .src in
+          let read = back .goes E es o k e row in
+          cc;
     }
