@@ -46,9 +46,13 @@ finished d = not (inside d) && not (rootless d)
 abbrev pub valued : Document → Span → Span → Document
 valued d a v = document (d .elements) (d .attributes ++ (record { element = length (d .elements); name = a; value = v } ∷ [])) (d .inner) (d .depth)
 
+-- an element's row by its parts
+abbrev pub rowOf : Span → ℕ → ℕ → Span → Element
+rowOf e parent level t = record { name = e; parent = parent; level = level; text = t }
+
 -- the row of the element with the name e and the text t, inside what is open
 abbrev pub row : Document → Span → Span → Element
-row d e t = record { name = e; parent = d .inner; level = d .depth + 1; text = t }
+row d e t = rowOf e (d .inner) (d .depth + 1) t
 
 -- the element e with the text t is read and open
 abbrev pub opened : Document → Span → Span → Document

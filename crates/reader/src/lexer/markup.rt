@@ -14,7 +14,7 @@ ghost use Rattle.tables.specs.declared.manifest.Attribute.{Attribute as Attribu
 ghost use Rattle.tables.specs.declared.manifest.Element.{Element as ElementOf};
 ghost use Rattle.tables.specs.declared.span.Span.{Span as Part};
 ghost use Rattle.reader.specs.Bytes.{begins};
-ghost use Rattle.reader.specs.Machine.{Document, document, inside, finished, tag, attribute, naming, angle, close, outside, start, nothing, accepted, twice, reading, from as becomes};
+ghost use Rattle.reader.specs.Machine.{Document, document, inside, finished, tag, attribute, naming, angle, close, outside, start, nothing, accepted, twice, rowOf, reading, from as becomes};
 ghost use Rattle.reader.specs.Outcomes.{answer, elementsOf, attributesOf, went, Kept, Filled};
 ghost use Rattle.reader.specs.declared.fault.ReadRefusal.the-variants.{Ampersand, Grammar};
 ghost use Rattle.reader.specs.Tags.{behind, leads};
@@ -176,12 +176,25 @@ fn rest_of_tag(
 }
 
 // Takes the row of an element whose name begins behind the byte.
-fn add(elements: &mut Table<Element>, row: Element, byte: usize) -> Result<(), ReadFault>
+fn add(
+    elements: &mut Table<Element>,
+    name: Span,
+    parent: usize,
+    level: usize,
+    text: Span,
+    byte: usize,
+) -> Result<(), ReadFault>
     ensures elements { λ _. ⌜ Kept (now (elements .entry)) (now (elements .exit)) ⌝ }
     ensures answer { λ r. ⌜ Cases r
-        (λ _. held (now (elements .exit)) ≡ held (now (elements .entry)) ++ row ∷ [])
+        (λ _. held (now (elements .exit)) ≡ held (now (elements .entry)) ++ rowOf name parent level text ∷ [])
         (λ _. capacity (now (elements .entry)) ≤ length (held (now (elements .entry)))) ⌝ }
 {
+    let row = Element {
+        name,
+        parent,
+        level,
+        text,
+    };
     match elements.push(row) {
         Ok(()) => Ok(()),
         Err(_) => Err(ReadFault {
@@ -224,29 +237,12 @@ fn read_element(
     let level = nesting.depth + 1;
     let empty = rest_of_tag(reader, row, attributes)?;
     if empty {
-        add(
-            elements,
-            Element {
-                name: name.span(),
-                parent: nesting.inner,
-                level,
-                text: NO_TEXT,
-            },
-            byte,
-        )?;
+        add(elements, name.span(), nesting.inner, level, NO_TEXT, byte)?;
         return Ok(());
     }
     let text = reader.text()?;
-    add(
-        elements,
-        Element {
-            name: name.span(),
-            parent: nesting.inner,
-            level,
-            text: text.span(),
-        },
-        byte,
-    )?;
+    let words = text.span();
+    add(elements, name.span(), nesting.inner, level, words, byte)?;
     nesting.inner = row;
     nesting.depth = level;
     Ok(())

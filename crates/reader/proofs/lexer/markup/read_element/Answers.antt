@@ -182,5 +182,5 @@ returns c =
       further = omega (arith, t .ensures .pos, back .further, words .further);
       elements = added .elements;
       attributes = back .kept;
-      goes = behind-text m _ E A d (document es xs o k) e p end next (c .in-Continue-empty .empty) (t .ensures .src) on tags (c .if-empty .left) _ (back .src ∙ t .ensures .src) s (c .text .last .self .pos) (words .goes E A (document es xs o k) e) (held (c .add-2 .last .elements)) (added .answer ∙ ap (λ n. es ++ (record { name = n; parent = o; level = k + 1; text = c .span-3 .result } ∷ [])) (c .span-2 .ensures ∙ whole) ∙ ap (λ n. es ++ (record { name = e; parent = o; level = k + 1; text = n } ∷ [])) (c .span-3 .ensures)) (c .len-row .result) (c .len-row .ensures);
+      goes = behind-text m _ E A d (document es xs o k) e p end next (c .in-Continue-empty .empty) (t .ensures .src) on tags (c .if-empty .left) _ (back .src ∙ t .ensures .src) s (c .text .last .self .pos) (words .goes E A (document es xs o k) e) (held (c .add-2 .last .elements)) (added .answer ∙ ap (λ n. es ++ (record { name = n; parent = o; level = k + 1; text = c .span-words .result } ∷ [])) (c .span-2 .ensures ∙ whole) ∙ ap (λ n. es ++ (record { name = e; parent = o; level = k + 1; text = n } ∷ [])) (c .span-words .ensures)) (c .len-row .result) (c .len-row .ensures);
     }
