@@ -112,7 +112,13 @@ fn layers() -> Result<(), Fail> {
             by: u64::MAX,
         },
         &[],
-    )?;
+    )
+}
+
+#[test]
+fn piles() -> Result<(), Fail> {
+    let runs = [run(0, 20, 2), run(45, 20, 1)];
+    let bottom = Written::new(5, &runs);
     let lent = Lent { below: &bottom };
     let late = Shift { below: lent, by: 5 };
     let shown = Cut {
