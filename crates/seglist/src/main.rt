@@ -3,6 +3,7 @@ use listing::Line;
 use listing::line_at;
 use listing::survey;
 use listing::write_line;
+use output::NoRoom;
 use output::Output;
 use rules::Finding;
 use rules::FindingRow;
@@ -85,7 +86,7 @@ fn print_listing(rt: &LibcRuntime, manifest: &[u8]) -> io::Result<()> {
             break;
         };
         if !print_line(rt, line)? {
-            print_line(rt, Line::Refused(45))?;
+            print_line(rt, Line::Refused(NoRoom.number()))?;
             break;
         }
     }

@@ -91,7 +91,13 @@ fn layers() -> Result<(), Fail> {
             at: 20,
         },
         &[segment(5, 0, 20)],
-    )?;
+    )
+}
+
+#[test]
+fn shifts() -> Result<(), Fail> {
+    let runs = [run(0, 20, 2), run(45, 20, 1)];
+    let bottom = Written::new(5, &runs);
     tells(
         &Shift {
             below: bottom,
