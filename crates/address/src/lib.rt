@@ -1,4 +1,6 @@
 // Segment addresses: a template's expansion, and base URLs joined with it.
+#![tactic(auto)]
+
 ghost use Rattle.std.specs.Prelude.{◌≡◌, ◌||◌};
 ghost use Rattle.output.specs.Text.{Puts};
 ghost use Rattle.template.specs.Reading.{broken};

@@ -1,4 +1,6 @@
 // Tries a list of calls on a manifest's timeline, and prints what each answered and where the head stands.
+#![tactic(auto)]
+
 mod lines;
 mod obey;
 mod order;

@@ -1,4 +1,6 @@
 // The S elements of a SegmentTimeline, expanded into runs.
+#![tactic(auto)]
+
 mod fault;
 mod place;
 mod runs;

@@ -1,4 +1,6 @@
 // The head: it stands at a place of a timeline or nowhere, and moves along any timeline by calls.
+#![tactic(auto)]
+
 mod fault;
 mod head;
 mod sequence;

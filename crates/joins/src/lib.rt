@@ -1,4 +1,6 @@
 // Whether the parts of an address can be joined.
+#![tactic(auto)]
+
 ghost use Rattle.std.specs.Prelude.{◌≡◌, ℕ, false, not, ◌&&◌};
 ghost use Rattle.template.specs.Reading.{broken};
 ghost use Rattle.address.specs.Expansion.{expansion};

@@ -1,4 +1,6 @@
 // The listing of a manifest: reading and check under one fault, and each printed line as a call.
+#![tactic(auto)]
+
 mod fault;
 mod printing;
 mod surveying;

@@ -1,4 +1,6 @@
 // An output is the caller's bytes with a mark, the count of bytes used. A mark past the end has no bytes behind it.
+#![tactic(auto)]
+
 ghost use Rattle.std.specs.Prelude.{◌≡◌, ℕ, ◌+◌, ◌<◌, ◌≤◌, List, length, take, MatchResult};
 ghost use Rattle.output.specs.Digits.{last_digits, digit_count, padded, Decimal};
 ghost use Rattle.output.specs.Text.{number, room, after, Puts, Written};

@@ -1,4 +1,6 @@
 // When Periods start and how long they last.
+#![tactic(auto)]
+
 ghost use Rattle.std.specs.Prelude.{◌≡◌, ◌+◌, ◌^◌, ◌<◌, ◌≤◌, true, false, length, take, IfSome, if◌then◌else◌, None, MatchResult, OnSome, nat_lt};
 ghost use Rattle.tree.specs.Questions.{value_of};
 ghost use Rattle.values.specs.Duration.{duration_of};

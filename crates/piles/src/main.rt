@@ -1,4 +1,6 @@
 // Prints what timelines tell under piles of shifts and cuts, and where a head goes over them.
+#![tactic(auto)]
+
 use address::Parts;
 use bottom::Placed;
 use head::Head;

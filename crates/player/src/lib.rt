@@ -1,4 +1,6 @@
 // From a manifest's bytes to its timeline: the head over it, and its sums.
+#![tactic(auto)]
+
 mod fault;
 mod screening;
 

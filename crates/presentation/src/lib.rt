@@ -1,4 +1,6 @@
 // The manifest's timeline, and the sum of what it lists and leaves out.
+#![tactic(auto)]
+
 mod accounting;
 mod laid;
 mod plan;

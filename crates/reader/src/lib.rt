@@ -1,4 +1,6 @@
 // The manifest read into rows of elements and attributes.
+#![tactic(auto)]
+
 mod fault;
 mod lexer;
 

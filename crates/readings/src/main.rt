@@ -1,4 +1,6 @@
 // Reads each line of standard input as a manifest, and prints what the reader answers.
+#![tactic(auto)]
+
 use anyhow::Context;
 use reader::read;
 use std::alloc::{AllocError, Global};

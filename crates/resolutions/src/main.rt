@@ -1,4 +1,6 @@
 // Reads and resolves the manifest of each line of standard input, and prints what its timeline is.
+#![tactic(auto)]
+
 use anyhow::Context;
 use output::Mark;
 use presentation::{Kind, Plan, account, lay_out};

@@ -1,4 +1,6 @@
 // From rows to runs and values: the call that a manifest's timeline is made by.
+#![tactic(auto)]
+
 mod fault;
 mod numbers;
 mod prepared;

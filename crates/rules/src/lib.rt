@@ -1,4 +1,6 @@
 // Conformance rules of a manifest, and the findings where they are broken.
+#![tactic(auto)]
+
 mod checker;
 mod element;
 mod rule;

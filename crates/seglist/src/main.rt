@@ -1,4 +1,6 @@
 // Lists a manifest from standard input: its findings, its segments, or the number of its refusal.
+#![tactic(auto)]
+
 use full_listing::{ListFault, Printed, survey, write_line};
 use output::Output;
 use presentation::Plan;

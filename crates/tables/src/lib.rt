@@ -1,4 +1,6 @@
 // Tables of rows over the caller's memory, and the rows that a manifest is read into.
+#![tactic(auto)]
+
 mod manifest;
 mod row;
 mod span;

@@ -1,4 +1,6 @@
 // Address templates: the pieces that a template is made of, read left to right.
+#![tactic(auto)]
+
 ghost use Rattle.std.specs.Prelude.{◌≡◌, ◌<◌, true, false, drop, Decides, slice_index};
 ghost use Rattle.template.specs.Pieces.{name_of, width_text, text_of};
 ghost use Rattle.template.specs.Reading.{begins, is_digit, width_of, closing_of, value_of, next, next_at, takes, is_value_of, broken, stands, measured, closing_text};

@@ -1,4 +1,6 @@
 // Timelines: the trait, the bottom timelines, the layers over any timeline, and addresses.
+#![tactic(auto)]
+
 mod addressed;
 mod cut;
 mod even;

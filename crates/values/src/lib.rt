@@ -1,4 +1,6 @@
 // The values of attributes: whole numbers, repeat counts and durations.
+#![tactic(auto)]
+
 mod given;
 #[cfg(test)]
 mod tests;

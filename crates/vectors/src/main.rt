@@ -1,4 +1,6 @@
 // Lists the manifests that INDEX names, and holds each listing to the expected one that lies beside it.
+#![tactic(auto)]
+
 use full_listing::{ListFault, Printed, survey, write_line};
 use output::Output;
 use presentation::Plan;
