@@ -1,7 +1,7 @@
 -- Words that a text begins with.
 use Rattle.std.proofs.Common.{◌≡◌, ℕ, ◌-◌, min, Bool, true, eqb, List, [], ◌∷◌, ◌++◌, length, take, drop, Decides, sym, refl, ap, ◌∙◌, subst, ⊎_elim, arith, eq-eqb, eqb-true}
 use borrow.Author.Tests.{clash}
-use Rattle.std.specs.Cmp.Lexicographic.{Matches}
+use Rattle.std.specs.List.{starts_with}
 use Rattle.std.proofs.lemmas.Slice.Eq.{starts_is}
 use Rattle.std.proofs.lemmas.List.{drop_all, take_rest}
 use Rattle.std.proofs.lemmas.Bool.{and_parts, and_from, cases_lt}
@@ -24,7 +24,7 @@ begins_decides w t =
     (begins_front w t, λ e. subst (λ s. begins w s ≡ true) (sym e) (begins_append w (drop (length w) t)))
 
 -- what `starts_with` answers
-begins_starts : (t w : List ℕ) (r : Bool) → Matches (λ (a b : ℕ) (e : Bool). Decides e (a ≡ b)) w (take (length w) t) r →
+begins_starts : (t w : List ℕ) (r : Bool) → r ≡ starts_with eqb t w →
     r ≡ begins w t
 begins_starts t w r h =
     let s = starts_is Decides-eqb t w r h in
@@ -32,7 +32,7 @@ begins_starts t w r h =
 
 -- the same at a place that may lie past the end
 pub begins_from : (t w : List ℕ) (at from : ℕ) (r : Bool) → from ≡ min at (length t) →
-    Matches (λ (a b : ℕ) (e : Bool). Decides e (a ≡ b)) w (take (length w) (take (length t - from) (drop from t))) r →
+    r ≡ starts_with eqb (take (length t - from) (drop from t)) w →
     r ≡ begins w (drop at t)
 begins_from t w at from r e h =
     begins_starts (take (length t - from) (drop from t)) w r h

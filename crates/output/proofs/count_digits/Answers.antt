@@ -4,8 +4,8 @@ use Rattle.output.proofs.Steps.{ten_fits, ten_more, count_then, count_else}
 use Rattle.output.proofs.count_digits.Goals as goal
 use Rattle.output.proofs.count_digits.Goals.{then-power-n, else-power-n}
 
-pub overflow-mul-power : goal.overflow-mul-power
-overflow-mul-power c = omega (arith, ten_fits c.loop-k.k c.loop-k-test.true, ap (λ p. p * 10) c.loop-k.invariant.0)
+pub overflow_mul-power : goal.overflow_mul-power
+overflow_mul-power c = omega (arith, ten_fits c.loop-k.k c.loop-k-test.true, ap (λ p. p * 10) c.loop-k.invariant.0)
 
 pub loop-k-preserved : goal.loop-k-preserved
 loop-k-preserved c =

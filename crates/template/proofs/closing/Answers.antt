@@ -5,36 +5,36 @@ use Rattle.template.proofs.Measured.{measured_some, measured_none}
 use Rattle.template.proofs.Steps.{plain, no-width, no_end, tag-there}
 use Rattle.template.proofs.closing.Goals as goal
 
-pub returns-then-begins-at : goal.returns-then-begins-at
-returns-then-begins-at c =
-    sym (ap (measured closing_text) (plain c.args.text.now c.args.at (sym c.if-begins-at.ensures)))
+pub returns-then-begins_at : goal.returns-then-begins_at
+returns-then-begins_at c =
+    sym (ap (measured closing_text) (plain c.args.text.now c.args.at (sym c.if-begins_at.ensures)))
 
-pub returns-in-err-width : goal.returns-in-err-width
-returns-in-err-width c =
-    let a = c.byte-at.result in
-    let b = c.byte-at-2.result in
-    let none = measured_none width_text (width_of a b) c.in-err-width.ensures in
-    let e = no-width c.args.text.now c.args.at (sym c.if-begins-at.ensures) (sym c.if-not-begins-at.ensures)
-    a b c.byte-at.ensures c.byte-at-2.ensures none in
-    c.from-residual.ensures ∙ sym (ap (measured closing_text) e)
+pub returns-in_err-width : goal.returns-in_err-width
+returns-in_err-width c =
+    let a = c.byte_at.result in
+    let b = c.byte_at-2.result in
+    let none = measured_none width_text (width_of a b) c.in_err-width.ensures in
+    let e = no-width c.args.text.now c.args.at (sym c.if-begins_at.ensures) (sym c.if-not-begins_at.ensures)
+    a b c.byte_at.ensures c.byte_at-2.ensures none in
+    c.from_residual.ensures ∙ sym (ap (measured closing_text) e)
 
-pub returns-then-not-begins-at-2 : goal.returns-then-not-begins-at-2
-returns-then-not-begins-at-2 c =
-    let a = c.byte-at.result in
-    let b = c.byte-at-2.result in
-    let w = c.in-ok-width.width in
-    let n = c.in-ok-width.digits in
-    let width = measured_some width_text (width_of a b) w n c.in-ok-width.ensures in
-    let e = no_end c.args.text.now c.args.at (sym c.if-begins-at.ensures) (sym c.if-not-begins-at.ensures)
-    a b c.byte-at.ensures c.byte-at-2.ensures w n width (sym c.if-not-begins-at-2.ensures) in
+pub returns-then-not-begins_at-2 : goal.returns-then-not-begins_at-2
+returns-then-not-begins_at-2 c =
+    let a = c.byte_at.result in
+    let b = c.byte_at-2.result in
+    let w = c.in_ok-width.width in
+    let n = c.in_ok-width.digits in
+    let width = measured_some width_text (width_of a b) w n c.in_ok-width.ensures in
+    let e = no_end c.args.text.now c.args.at (sym c.if-begins_at.ensures) (sym c.if-not-begins_at.ensures)
+    a b c.byte_at.ensures c.byte_at-2.ensures w n width (sym c.if-not-begins_at-2.ensures) in
     sym (ap (measured closing_text) e)
 
 pub returns : goal.returns
 returns c =
-    let a = c.byte-at.result in
-    let b = c.byte-at-2.result in
-    let w = c.in-ok-width.width in
-    let n = c.in-ok-width.digits in
-    let width = measured_some width_text (width_of a b) w n c.in-ok-width.ensures in
-    tag-there c.args.text.now c.args.at (sym c.if-begins-at.ensures) (sym c.if-not-begins-at.ensures)
-    a b c.byte-at.ensures c.byte-at-2.ensures w n width (sym c.if-not-begins-at-2.ensures)
+    let a = c.byte_at.result in
+    let b = c.byte_at-2.result in
+    let w = c.in_ok-width.width in
+    let n = c.in_ok-width.digits in
+    let width = measured_some width_text (width_of a b) w n c.in_ok-width.ensures in
+    tag-there c.args.text.now c.args.at (sym c.if-begins_at.ensures) (sym c.if-not-begins_at.ensures)
+    a b c.byte_at.ensures c.byte_at-2.ensures w n width (sym c.if-not-begins_at-2.ensures)

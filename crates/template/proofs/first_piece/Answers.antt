@@ -4,11 +4,11 @@ use Rattle.template.specs.Reading.{measured}
 use Rattle.template.proofs.Steps.{next_dollar, measured_values}
 use Rattle.template.proofs.first_piece.Goals as goal
 
-pub returns-then-begins-at : goal.returns-then-begins-at
-returns-then-begins-at c =
-    sym (ap (measured text_of) (next_dollar c.args.text.now c.if-text-ne36.false (sym c.if-begins-at.ensures)))
+pub returns-then-begins_at : goal.returns-then-begins_at
+returns-then-begins_at c =
+    sym (ap (measured text_of) (next_dollar c.args.text.now c.if-text-ne36.false (sym c.if-begins_at.ensures)))
 
 pub returns : goal.returns
 returns c =
-    let e = measured_values c.args.text.now c.if-text-ne36.false (sym c.if-begins-at.ensures) in
+    let e = measured_values c.args.text.now c.if-text-ne36.false (sym c.if-begins_at.ensures) in
     cc

@@ -14,40 +14,40 @@ name_short Number = omega arith
 name_short Bandwidth = omega arith
 name_short Time = omega arith
 
-pub returns-in-err-tag : goal.returns-in-err-tag
-returns-in-err-tag c =
+pub returns-in_err-tag : goal.returns-in_err-tag
+returns-in_err-tag c =
     let s = c.args.text.now in
-    let name = c.name-of-name.result.now in
-    let none = measured_none closing_text (closing_of (drop (1 + length name) s)) c.in-err-tag.ensures in
-    let e = closing_there s c.args.identifier name c.name-of-name.ensures (sym c.if-not-begins-at.ensures) None none in
-    c.from-residual.ensures ∙ sym (ap (measured text_of) e)
+    let name = c.name_of-name.result.now in
+    let none = measured_none closing_text (closing_of (drop (1 + length name) s)) c.in_err-tag.ensures in
+    let e = closing_there s c.args.identifier name c.name_of-name.ensures (sym c.if-not-begins_at.ensures) None none in
+    c.from_residual.ensures ∙ sym (ap (measured text_of) e)
 
-pub returns-then-not-takes-tag : goal.returns-then-not-takes-tag
-returns-then-not-takes-tag c =
+pub returns-then-not-takes_tag : goal.returns-then-not-takes_tag
+returns-then-not-takes_tag c =
     let s = c.args.text.now in
-    let name = c.name-of-name.result.now in
-    let tag = c.in-ok-tag.tag in
-    let some = measured_some closing_text (closing_of (drop (1 + length name) s)) tag c.in-ok-tag.long c.in-ok-tag.ensures in
-    let e = value_there s c.args.identifier name c.name-of-name.ensures (sym c.if-not-begins-at.ensures)
-    tag some.0 false (sym c.if-not-takes-tag.ensures) in
+    let name = c.name_of-name.result.now in
+    let tag = c.in_ok-tag.tag in
+    let some = measured_some closing_text (closing_of (drop (1 + length name) s)) tag c.in_ok-tag.long c.in_ok-tag.ensures in
+    let e = value_there s c.args.identifier name c.name_of-name.ensures (sym c.if-not-begins_at.ensures)
+    tag some.0 false (sym c.if-not-takes_tag.ensures) in
     sym (ap (measured text_of) e)
 
-pub overflow-add-result : goal.overflow-add-result
-overflow-add-result c =
-    let name = c.name-of-name.result.now in
-    let tag = c.in-ok-tag.tag in
-    let some = measured_some closing_text (closing_of (drop (1 + length name) c.args.text.now)) tag c.in-ok-tag.long c.in-ok-tag.ensures in
-    omega (arith, some.1, closing_short tag, name_short c.args.identifier, ap length c.name-of-name.ensures)
+pub overflow_add-result : goal.overflow_add-result
+overflow_add-result c =
+    let name = c.name_of-name.result.now in
+    let tag = c.in_ok-tag.tag in
+    let some = measured_some closing_text (closing_of (drop (1 + length name) c.args.text.now)) tag c.in_ok-tag.long c.in_ok-tag.ensures in
+    omega (arith, some.1, closing_short tag, name_short c.args.identifier, ap length c.name_of-name.ensures)
 
 pub returns : goal.returns
 returns c =
     let s = c.args.text.now in
     let i = c.args.identifier in
-    let name = c.name-of-name.result.now in
-    let tag = c.in-ok-tag.tag in
-    let n = c.in-ok-tag.long in
-    let some = measured_some closing_text (closing_of (drop (1 + length name) s)) tag n c.in-ok-tag.ensures in
-    let named = sym c.if-not-begins-at.ensures in
-    let e = value_there s i name c.name-of-name.ensures named tag some.0 true (sym c.if-not-takes-tag.ensures) in
-    ap (λ k. Some (Value i tag, k)) (value_length s i name c.name-of-name.ensures named tag n some.1)
+    let name = c.name_of-name.result.now in
+    let tag = c.in_ok-tag.tag in
+    let n = c.in_ok-tag.long in
+    let some = measured_some closing_text (closing_of (drop (1 + length name) s)) tag n c.in_ok-tag.ensures in
+    let named = sym c.if-not-begins_at.ensures in
+    let e = value_there s i name c.name_of-name.ensures named tag some.0 true (sym c.if-not-takes_tag.ensures) in
+    ap (λ k. Some (Value i tag, k)) (value_length s i name c.name_of-name.ensures named tag n some.1)
     ∙ sym (ap (measured text_of) e)

@@ -5,8 +5,8 @@ use Rattle.template.proofs.piece_at.Goals as goal
 pub returns-then-at-template : goal.returns-then-at-template
 returns-then-at-template c = at_end c.args.template.now c.args.at c.if-at-template.true
 
-pub overflow-add-result : goal.overflow-add-result
-overflow-add-result c =
+pub overflow_add-result : goal.overflow_add-result
+overflow_add-result c =
     omega (arith, fits c.args.template.now c.args.at c.if-at-template.false c.in-Some.piece c.in-Some.long c.in-Some.ensures)
 
 pub returns-in-Some : goal.returns-in-Some

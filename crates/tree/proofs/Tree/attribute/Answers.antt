@@ -8,15 +8,15 @@ use Rattle.tree.proofs.Walk.{nowhere_more, bears-here, bears-not, value-here, va
 pub rows-init : goal.rows-init
 rows-init c = (refl, λ i from below p. omega arith)
 
-pub returns-then-attribute-is : goal.returns-then-attribute-is
-returns-then-attribute-is c =
+pub returns-then-attribute_is : goal.returns-then-attribute_is
+returns-then-attribute_is c =
     let m = c.args.self.now.manifest.now in
     let rows = c.args.self.now.attributes.now in
     let e = c.args.row in
     let n = c.args.name.now in
     let i = c.rows.attribute-index in
     let within = c.rows-test.true in
-    let fits = c.if-attribute-is.ensures in
+    let fits = c.if-attribute_is.ensures in
     record {
       value = ap (λ v. Some v) c.part.ensures ∙ sym (c.rows.invariant.0 ∙ value-here m e n rows i within fits);
       first = (i, record { from = omega arith; below = within; here = bears-here m e n rows i fits; before = c.rows.invariant.1 }, c.part.ensures);
@@ -29,7 +29,7 @@ rows-preserved c =
     let e = c.args.row in
     let n = c.args.name.now in
     let i = c.rows.attribute-index in
-    let other = c.if-attribute-is.ensures in (
+    let other = c.if-attribute_is.ensures in (
       c.rows.invariant.0 ∙ value-more m e n rows i c.rows-test.true other,
       nowhere_more (Bears m e n rows) 0 i c.rows.invariant.1 (bears-not m e n rows i other),
     )

@@ -20,15 +20,15 @@ returns-then-row-elements c =
 pub rows-init : goal.rows-init
 rows-init c = (refl, λ i from below p. omega arith)
 
-pub returns-then-child-is : goal.returns-then-child-is
-returns-then-child-is c =
+pub returns-then-child_is : goal.returns-then-child_is
+returns-then-child_is c =
     let m = c.args.self.now.manifest.now in
     let es = c.args.self.now.elements.now in
     let e = c.args.row in
     let n = c.args.name.now in
     let i = c.rows.later in
     let within = c.rows-test.true in
-    let fits = c.if-child-is.ensures in
+    let fits = c.if-child_is.ensures in
     record {
       row = sym (c.rows.invariant.0 ∙ child-here m e n es i within fits);
       first = record { from = omega arith; below = within; here = child_fits m e n es i fits; before = c.rows.invariant.1 };
@@ -41,7 +41,7 @@ rows-preserved c =
     let e = c.args.row in
     let n = c.args.name.now in
     let i = c.rows.later in
-    let other = c.if-child-is.ensures in (
+    let other = c.if-child_is.ensures in (
       c.rows.invariant.0 ∙ child-more m e n es i c.rows-test.true other,
       nowhere_more (Child m e n es) (e + 1) i c.rows.invariant.1 (child-not m e n es i other),
     )
