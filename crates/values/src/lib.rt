@@ -99,7 +99,7 @@ pub fn repeat(text: &[u8]) -> Result<i32, ValueFault>
     ensures sound { MatchResult result (λ z. Repeat text.now z) (λ f. f ≡ NoWholeNumber) }
     ensures complete { (z : ℤ) → Repeat text.now z → result ≡ Ok z }
 {
-    if text == b"-1" {
+    if text == b"-1".as_slice() {
         return Ok(-1);
     }
     let n = whole(text, 0, 2_147_483_646)?;

@@ -7,8 +7,8 @@ use Rattle.values.proofs.capped.Goals as goal
 pub loop-b-init : goal.loop-b-init
 loop-b-init c = (omega arith, c.requires.digits, ap (λ k. min k c.args.most) (onward_none c.args.text.now))
 
-pub overflow-sub-b : goal.overflow-sub-b
-overflow-sub-b c = (digit_here c.args.text.now c.loop-b.b-index c.loop-b-test.true c.loop-b.invariant.1).0
+pub overflow_sub-b : goal.overflow_sub-b
+overflow_sub-b c = (digit_here c.args.text.now c.loop-b.b-index c.loop-b-test.true c.loop-b.invariant.1).0
 
 pub loop-b-preserved : goal.loop-b-preserved
 loop-b-preserved c =

@@ -6,12 +6,12 @@ use Rattle.values.proofs.digits_end.Goals as goal
 
 pub loop-i-preserved : goal.loop-i-preserved
 loop-i-preserved c =
-    let more = prefix_len-drop_yes digit c.args.text.now c.loop-i.i 0 c.loop-i-test.true (sym c.if-is-digit.ensures) in
+    let more = prefix_len-drop_yes digit c.args.text.now c.loop-i.i 0 c.loop-i-test.true (sym c.if-is_digit.ensures) in
     (omega arith, omega (arith, c.loop-i.invariant.1))
 
-pub returns-else-is-digit : goal.returns-else-is-digit
-returns-else-is-digit c =
-    let none = prefix_len-drop_no digit c.args.text.now c.loop-i.i 0 c.loop-i-test.true (sym c.if-is-digit.ensures) in
+pub returns-else-is_digit : goal.returns-else-is_digit
+returns-else-is_digit c =
+    let none = prefix_len-drop_no digit c.args.text.now c.loop-i.i 0 c.loop-i-test.true (sym c.if-is_digit.ensures) in
     record { within = c.loop-i.invariant.0; value = omega (arith, c.loop-i.invariant.1) }
 
 pub returns-after-loop-i : goal.returns-after-loop-i

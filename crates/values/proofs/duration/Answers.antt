@@ -10,11 +10,11 @@ returns-then-rest-text c =
     let e = not_all c.args.text.now c.field-hours.result.end c.field-minutes.result.end c.seconds-rest.result.end c.field-hours.ensures.end c.field-minutes.ensures.end c.seconds-rest.ensures.end c.if-rest-text.true in
     record { computed = e; sound = sound c.args.text.now _ e; complete = λ ms d. e ∙ complete c.args.text.now ms d }
 
-pub overflow-add-total-2 : goal.overflow-add-total-2
-overflow-add-total-2 c = omega (arith, c.seconds-rest.ensures.few, c.seconds-rest.ensures.whole)
+pub overflow_add-total-2 : goal.overflow_add-total-2
+overflow_add-total-2 c = omega (arith, c.seconds-rest.ensures.few, c.seconds-rest.ensures.whole)
 
-pub overflow-add-total-3 : goal.overflow-add-total-3
-overflow-add-total-3 c = omega (arith, c.seconds-rest.ensures.few, c.seconds-rest.ensures.whole, c.field-hours.ensures.value, c.field-minutes.ensures.value)
+pub overflow_add-total-3 : goal.overflow_add-total-3
+overflow_add-total-3 c = omega (arith, c.seconds-rest.ensures.few, c.seconds-rest.ensures.whole, c.field-hours.ensures.value, c.field-minutes.ensures.value)
 
 pub returns-then-total-gt-LONGEST : goal.returns-then-total-gt-LONGEST
 returns-then-total-gt-LONGEST c =

@@ -7,17 +7,17 @@ use Rattle.values.proofs.whole.Goals as goal
 
 pub returns-then-end-text : goal.returns-then-end-text
 returns-then-end-text c =
-    let e = sym (no_digits c.args.low c.args.high c.args.text.now (not_digits c.args.text.now (omega (arith, c.digits-end-end.ensures.value)))) in
+    let e = sym (no_digits c.args.low c.args.high c.args.text.now (not_digits c.args.text.now (omega (arith, c.digits_end-end.ensures.value)))) in
     record { computed = e; sound = refl; complete = λ n w l h. e ∙ complete c.args.low c.args.high c.args.text.now n w l h }
 
 pub capped-n-requires : goal.capped-n-requires
-capped-n-requires c = record { digits = all_digits c.args.text.now (omega (arith, c.digits-end-end.ensures.value)); small = omega arith }
+capped-n-requires c = record { digits = all_digits c.args.text.now (omega (arith, c.digits_end-end.ensures.value)); small = omega arith }
 
 pub returns : goal.returns
 returns c =
     let w : Whole c.args.text.now c.capped-n.result = record {
-      some = omega (arith, false-eqb _ 0 c.if-is-empty.ensures);
-      all = all_digits c.args.text.now (omega (arith, c.digits-end-end.ensures.value));
+      some = omega (arith, false-eqb _ 0 c.if-is_empty.ensures);
+      all = all_digits c.args.text.now (omega (arith, c.digits_end-end.ensures.value));
       value = omega arith;
     } in
     let e = sym (complete c.args.low c.args.high c.args.text.now c.capped-n.result w (omega arith) (omega arith)) in
