@@ -16,10 +16,10 @@ rows-preserved c =
     let attrs = c.args.attributes.now in
     let k = c.rows.row in
     let inv = c.rows.invariant in (
-      below_listed m es attrs k (held c.rows.table) (held c.list-at.new.table) inv.0 c.in-Ok.ensures.answer,
-      c.list-at.ensures.capacity ∙ inv.1,
-      c.list-at.ensures.clean inv.2,
-      c.list-at.ensures.lent ∙ inv.3,
+      below_listed m es attrs k (held c.rows.table) (held c.list_at.new.table) inv.0 c.in-Ok.ensures.answer,
+      c.list_at.ensures.capacity ∙ inv.1,
+      c.list_at.ensures.clean inv.2,
+      c.list_at.ensures.lent ∙ inv.3,
     )
 
 pub returns-in-Err : goal.returns-in-Err
@@ -38,9 +38,9 @@ returns-in-Err c =
     record {
       answer = (refl, omega arith, c.clear-in-Err.ensures.held);
       law = tt;
-      capacity = c.clear-in-Err.ensures.capacity ∙ c.list-at.ensures.capacity ∙ same;
+      capacity = c.clear-in-Err.ensures.capacity ∙ c.list_at.ensures.capacity ∙ same;
       clean = c.clear-in-Err.ensures.clean;
-      lent = c.clear-in-Err.ensures.lent ∙ c.list-at.ensures.lent ∙ inv.3 ∙ c.clear.ensures.lent;
+      lent = c.clear-in-Err.ensures.lent ∙ c.list_at.ensures.lent ∙ inv.3 ∙ c.clear.ensures.lent;
     }
 
 pub returns : goal.returns

@@ -9,7 +9,7 @@ use Rattle.rules.specs.declared.rule.Finding.{Finding}
 use Rattle.rules.specs.declared.rule.Rule.TheVariants.{DynamicUnanchored}
 use Rattle.rules.proofs.Pushes.{failing_here, failing_past, pushed, too_many}
 use Rattle.rules.proofs.checker.list_at.Goals as goal
-use Rattle.rules.proofs.checker.list_at.Goals.{then-is-broken+in-ok-push, else-is-broken}
+use Rattle.rules.proofs.checker.list_at.Goals.{then-is_broken+in_ok-push, else-is_broken}
 
 pub rules-init : goal.rules-init
 rules-init c = (refl, refl, λ h. h, refl)
@@ -23,31 +23,31 @@ rules-preserved c =
     let inv = c.rules.invariant in
     let x = finding (get_or fs i DynamicUnanchored) e in
     let K : Table Finding → Type 0 = λ t. (held c.args.table.now ++ failing p e fs ≡ held t ++ failing p e (drop (i + 1) fs)) × (capacity t ≡ capacity c.args.table.now) × (Clean no_finding c.args.table.now → Clean no_finding t) × (t.rows.ghost_name ≡ c.args.table.now.rows.ghost_name) in
-    elim c.if-is-broken.branch [
-      | then-is-broken+in-ok-push w ↦
-          let next = failing_here p e fs i DynamicUnanchored c.rules-test.true w.if-is-broken.ensures in
+    elim c.if-is_broken.branch [
+      | then-is_broken+in_ok-push w ↦
+          let next = failing_here p e fs i DynamicUnanchored c.rules-test.true w.if-is_broken.ensures in
           subst K (sym w.table-is) (
-            pushed (held c.args.table.now ++ failing p e fs) (held c.rules.table) (failing p e (drop i fs)) (failing p e (drop (i + 1) fs)) x inv.0 next (held w.push.new.self) w.in-ok-push.ensures.answer.1,
+            pushed (held c.args.table.now ++ failing p e fs) (held c.rules.table) (failing p e (drop i fs)) (failing p e (drop (i + 1) fs)) x inv.0 next (held w.push.new.self) w.in_ok-push.ensures.answer.1,
             w.push.ensures.capacity ∙ inv.1,
             λ h. w.push.ensures.clean no_finding (inv.2 h),
             w.push.ensures.lent ∙ inv.3,
           )
-      | else-is-broken w ↦
-          let past = failing_past p e fs i DynamicUnanchored c.rules-test.true w.if-is-broken.ensures in
+      | else-is_broken w ↦
+          let past = failing_past p e fs i DynamicUnanchored c.rules-test.true w.if-is_broken.ensures in
           subst K (sym w.table-is) (inv.0 ∙ ap (λ l. held c.rules.table ++ l) past, inv.1, inv.2, inv.3)
     ]
 
-pub returns-in-err-push : goal.returns-in-err-push
-returns-in-err-push c =
+pub returns-in_err-push : goal.returns-in_err-push
+returns-in_err-push c =
     let p = broken_at c.args.tree.now c.args.row in
     let e = c.args.row in
     let fs = c.args.rules.now in
     let i = c.rules.rule-index in
     let inv = c.rules.invariant in
-    let next = failing_here p e fs i DynamicUnanchored c.rules-test.true c.if-is-broken.ensures in
-    let many = too_many (held c.args.table.now ++ failing p e fs) (held c.rules.table) (failing p e (drop i fs)) (failing p e (drop (i + 1) fs)) (finding (get_or fs i DynamicUnanchored) e) inv.0 next (capacity c.args.table.now) (omega (arith, c.in-err-push.ensures.answer.0, inv.1)) in
+    let next = failing_here p e fs i DynamicUnanchored c.rules-test.true c.if-is_broken.ensures in
+    let many = too_many (held c.args.table.now ++ failing p e fs) (held c.rules.table) (failing p e (drop i fs)) (failing p e (drop (i + 1) fs)) (finding (get_or fs i DynamicUnanchored) e) inv.0 next (capacity c.args.table.now) (omega (arith, c.in_err-push.ensures.answer.0, inv.1)) in
     record {
-      answer = MatchResult-from_err _ _ _ c.from-residual.ensures.0 (λ y. many);
+      answer = MatchResult-from_err _ _ _ c.from_residual.ensures.0 (λ y. many);
       capacity = c.push.ensures.capacity ∙ inv.1;
       clean = λ h. c.push.ensures.clean no_finding (inv.2 h);
       lent = c.push.ensures.lent ∙ inv.3;

@@ -7,7 +7,7 @@ pub returns-then-not-is : goal.returns-then-not-is
 returns-then-not-is c = fails _ c.if-not-is.ensures
 
 pub returns-in-Some : goal.returns-in-Some
-returns-in-Some c = passes c.if-not-is.ensures (c.is-broken.ensures.value ∙ ap is_broken c.in-Some.ensures.value)
+returns-in-Some c = passes c.if-not-is.ensures (c.is_broken.ensures.value ∙ ap is_broken c.in-Some.ensures.value)
 
 pub returns-in-None : goal.returns-in-None
 returns-in-None c = passes c.if-not-is.ensures (ap is_broken c.in-None.ensures.value)

@@ -3,7 +3,7 @@ use Rattle.rules.proofs.Ands.{fails, passes}
 use Rattle.rules.proofs.element.is_timed_twice.Goals as goal
 
 pub returns-then-has : goal.returns-then-has
-returns-then-has c = passes c.if-is.ensures (passes c.if-has.ensures (c.is-some.ensures ∙ ap is_some c.child.ensures.row))
+returns-then-has c = passes c.if-is.ensures (passes c.if-has.ensures (c.is_some.ensures ∙ ap is_some c.child.ensures.row))
 
 pub returns-else-has : goal.returns-else-has
 returns-else-has c = passes c.if-is.ensures (c.if-has.false ∙ fails _ c.if-has.ensures)
