@@ -4,13 +4,13 @@ use Rattle.reader.specs.Machine.{comment}
 use Rattle.reader.proofs.Lexing.{comment_ends, comment_closed, comment-other, comment-next}
 use Rattle.reader.proofs.lexer.Reader.comment.Goals as goal
 
-pub returns-then-ends-comment : goal.returns-then-ends-comment
-returns-then-ends-comment c =
+pub returns-then-ends_comment : goal.returns-then-ends_comment
+returns-then-ends_comment c =
     let i = c.loop-b.invariant in
     let n = c.expect.new.self.src.now in
     let p = c.loop-b.self.pos in
     let k = c.loop-b.dashes in
-    let back = c.in-ok-expect.ensures in
+    let back = c.in_ok-expect.ensures in
     let long = ap length i.0 in
     let byte = c.in-Some.ensures in
     let is = byte.1 ∙ ap (λ l. get_or l p 0) i.0 in
@@ -21,18 +21,18 @@ returns-then-ends-comment c =
       goes = λ E A d.
           let word = back.goes E A (comment 0 d) in
           let here = i.2 E A d in
-          let shut = comment_closed n E A p k d (omega (arith, byte.0)) (ap (λ b. leb 2 k && eqb b 62) (sym is) ∙ sym c.if-ends-comment.ensures) in
+          let shut = comment_closed n E A p k d (omega (arith, byte.0)) (ap (λ b. leb 2 k && eqb b 62) (sym is) ∙ sym c.if-ends_comment.ensures) in
           let m = back.src in
           cc;
     }
 
-pub returns-then-not-is-visible : goal.returns-then-not-is-visible
-returns-then-not-is-visible c =
+pub returns-then-not-is_visible : goal.returns-then-not-is_visible
+returns-then-not-is_visible c =
     let i = c.loop-b.invariant in
     let n = c.expect.new.self.src.now in
     let p = c.loop-b.self.pos in
     let k = c.loop-b.dashes in
-    let back = c.in-ok-expect.ensures in
+    let back = c.in_ok-expect.ensures in
     let long = ap length i.0 in
     let byte = c.in-Some.ensures in
     let is = byte.1 ∙ ap (λ l. get_or l p 0) i.0 in
@@ -42,7 +42,7 @@ returns-then-not-is-visible c =
       goes = λ E A d.
           let word = back.goes E A (comment 0 d) in
           let here = i.2 E A d in
-          let other = comment-other n E A p k d (omega (arith, byte.0)) (ap (λ b. leb 2 k && eqb b 62) (sym is) ∙ sym c.if-ends-comment.ensures) (ap visible (sym is) ∙ sym c.if-not-is-visible.ensures) in
+          let other = comment-other n E A p k d (omega (arith, byte.0)) (ap (λ b. leb 2 k && eqb b 62) (sym is) ∙ sym c.if-ends_comment.ensures) (ap visible (sym is) ∙ sym c.if-not-is_visible.ensures) in
           let m = back.src in
           cc;
     }
@@ -61,7 +61,7 @@ loop-b-preserved c =
       omega arith,
       λ E A d.
           let here = i.2 E A d in
-          let on = comment-next n E A p k d (omega (arith, byte.0)) (ap (λ b. leb 2 k && eqb b 62) (sym is) ∙ sym c.if-ends-comment.ensures) (ap visible (sym is) ∙ sym c.if-not-is-visible.ensures) in
+          let on = comment-next n E A p k d (omega (arith, byte.0)) (ap (λ b. leb 2 k && eqb b 62) (sym is) ∙ sym c.if-ends_comment.ensures) (ap visible (sym is) ∙ sym c.if-not-is_visible.ensures) in
           cc,
     )
 
@@ -70,7 +70,7 @@ returns c =
     let i = c.loop-b.invariant in
     let n = c.expect.new.self.src.now in
     let p = c.loop-b.self.pos in
-    let back = c.in-ok-expect.ensures in
+    let back = c.in_ok-expect.ensures in
     let long = ap length i.0 in
     record {
       src = i.0 ∙ back.src;
@@ -78,7 +78,7 @@ returns c =
       goes = λ E A d.
           let word = back.goes E A (comment 0 d) in
           let here = i.2 E A d in
-          let ends = comment_ends n E A p c.loop-b.dashes d (omega (arith, c.in-default.ensures)) in
+          let ends = comment_ends n E A p c.loop-b.dashes d (omega (arith, c.in_default.ensures)) in
           let m = back.src in
           cc;
     }

@@ -4,13 +4,13 @@ use Rattle.reader.specs.Machine.{declaration}
 use Rattle.reader.proofs.Lexing.{declaration_ends, declaration_closed, declaration-other, declaration-next}
 use Rattle.reader.proofs.lexer.Reader.declaration.Goals as goal
 
-pub returns-then-ends-declaration : goal.returns-then-ends-declaration
-returns-then-ends-declaration c =
+pub returns-then-ends_declaration : goal.returns-then-ends_declaration
+returns-then-ends_declaration c =
     let i = c.loop-b.invariant in
     let n = c.expect.new.self.src.now in
     let p = c.loop-b.self.pos in
     let k = c.loop-b.question in
-    let back = c.in-ok-expect.ensures in
+    let back = c.in_ok-expect.ensures in
     let long = ap length i.0 in
     let byte = c.in-Some.ensures in
     let is = byte.1 ∙ ap (λ l. get_or l p 0) i.0 in
@@ -20,18 +20,18 @@ returns-then-ends-declaration c =
       goes = λ E A.
           let word = back.goes E A (declaration false) in
           let here = i.1 E A in
-          let shut = declaration_closed n E A p k (omega (arith, byte.0)) (ap (λ b. k && eqb b 62) (sym is) ∙ sym c.if-ends-declaration.ensures) in
+          let shut = declaration_closed n E A p k (omega (arith, byte.0)) (ap (λ b. k && eqb b 62) (sym is) ∙ sym c.if-ends_declaration.ensures) in
           let m = back.src in
           cc;
     }
 
-pub returns-then-not-is-ascii : goal.returns-then-not-is-ascii
-returns-then-not-is-ascii c =
+pub returns-then-not-is_ascii : goal.returns-then-not-is_ascii
+returns-then-not-is_ascii c =
     let i = c.loop-b.invariant in
     let n = c.expect.new.self.src.now in
     let p = c.loop-b.self.pos in
     let k = c.loop-b.question in
-    let back = c.in-ok-expect.ensures in
+    let back = c.in_ok-expect.ensures in
     let long = ap length i.0 in
     let byte = c.in-Some.ensures in
     let is = byte.1 ∙ ap (λ l. get_or l p 0) i.0 in
@@ -40,7 +40,7 @@ returns-then-not-is-ascii c =
       goes = λ E A.
           let word = back.goes E A (declaration false) in
           let here = i.1 E A in
-          let other = declaration-other n E A p k (omega (arith, byte.0)) (ap (λ b. k && eqb b 62) (sym is) ∙ sym c.if-ends-declaration.ensures) (ap ascii (sym is) ∙ sym c.if-not-is-ascii.ensures) in
+          let other = declaration-other n E A p k (omega (arith, byte.0)) (ap (λ b. k && eqb b 62) (sym is) ∙ sym c.if-ends_declaration.ensures) (ap ascii (sym is) ∙ sym c.if-not-is_ascii.ensures) in
           let m = back.src in
           cc;
     }
@@ -58,7 +58,7 @@ loop-b-preserved c =
       c.advance-in-Some.ensures.src ∙ i.0,
       λ E A.
           let here = i.1 E A in
-          let on = declaration-next n E A p k (omega (arith, byte.0)) (ap (λ b. k && eqb b 62) (sym is) ∙ sym c.if-ends-declaration.ensures) (ap ascii (sym is) ∙ sym c.if-not-is-ascii.ensures) in
+          let on = declaration-next n E A p k (omega (arith, byte.0)) (ap (λ b. k && eqb b 62) (sym is) ∙ sym c.if-ends_declaration.ensures) (ap ascii (sym is) ∙ sym c.if-not-is_ascii.ensures) in
           cc,
     )
 
@@ -67,14 +67,14 @@ returns c =
     let i = c.loop-b.invariant in
     let n = c.expect.new.self.src.now in
     let p = c.loop-b.self.pos in
-    let back = c.in-ok-expect.ensures in
+    let back = c.in_ok-expect.ensures in
     let long = ap length i.0 in
     record {
       src = i.0 ∙ back.src;
       goes = λ E A.
           let word = back.goes E A (declaration false) in
           let here = i.1 E A in
-          let ends = declaration_ends n E A p c.loop-b.question (omega (arith, c.in-default.ensures)) in
+          let ends = declaration_ends n E A p c.loop-b.question (omega (arith, c.in_default.ensures)) in
           let m = back.src in
           cc;
     }

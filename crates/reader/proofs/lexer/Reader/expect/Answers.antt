@@ -2,8 +2,8 @@ use Rattle.std.proofs.Common.{◌≡◌, ◌+◌, ◌<◌, ◌≤◌, length, ge
 use Rattle.reader.proofs.Lexing.{expecting, expected, word_ends, word_other, word_next}
 use Rattle.reader.proofs.lexer.Reader.expect.Goals as goal
 
-pub returns-in-default : goal.returns-in-default
-returns-in-default c =
+pub returns-in_default : goal.returns-in_default
+returns-in_default c =
     let i = c.loop-w.invariant in
     let long = ap length i.0 in
     record {
@@ -12,7 +12,7 @@ returns-in-default c =
       goes = λ E A s.
           let here = i.2 E A s in
           let next = expecting c.args.word.now c.loop-w.w-index c.loop-w-test.true s in
-          let ends = word_ends c.args.self.now.src.now E A c.loop-w.self.pos (get_or c.args.word.now c.loop-w.w-index 0) (drop (c.loop-w.w-index + 1) c.args.word.now) s (omega (arith, c.in-default.ensures)) in
+          let ends = word_ends c.args.self.now.src.now E A c.loop-w.self.pos (get_or c.args.word.now c.loop-w.w-index 0) (drop (c.loop-w.w-index + 1) c.args.word.now) s (omega (arith, c.in_default.ensures)) in
           cc;
     }
 

@@ -6,11 +6,11 @@ use Rattle.reader.specs.Machine.{quote}
 use Rattle.reader.proofs.Tags.{to_sign, quote-ends, quote-other, quote-next}
 use Rattle.reader.proofs.lexer.Reader.opening.Goals as goal
 
-pub returns-in-err-expect : goal.returns-in-err-expect
-returns-in-err-expect c =
+pub returns-in_err-expect : goal.returns-in_err-expect
+returns-in_err-expect c =
     let t = c.token in
-    let back = c.in-err-expect.ensures in
-    let err = err_from_is_err_and c.from-residual.result c.from-residual.ensures.1 in
+    let back = c.in_err-expect.ensures in
+    let err = err_from_is_err_and c.from_residual.result c.from_residual.ensures.1 in
     rw (err.1, err.2) record {
       src = back.src ∙ t.ensures.src;
       further = omega (arith, t.ensures.pos, back.further);
@@ -21,11 +21,11 @@ returns-in-err-expect c =
           cc;
     }
 
-pub returns-in-default : goal.returns-in-default
-returns-in-default c =
+pub returns-in_default : goal.returns-in_default
+returns-in_default c =
     let t = c.token in
     let u = c.token-2 in
-    let back = c.in-ok-expect.ensures in
+    let back = c.in_ok-expect.ensures in
     let m = c.args.self.now.src.now in
     let at = c.expect.new.self.pos in
     let p = u.new.self.pos in
@@ -40,15 +40,15 @@ returns-in-default c =
           let first = to_sign m E A d e a c.args.self.now.pos t.new.self.pos t.ensures.pos t.ensures.stops in
           let old = t.ensures.src in
           let word = back.goes E A (quote d e a) in
-          let on = quote-ends m E A d e a at p end stops (omega (arith, c.in-default.ensures)) in
+          let on = quote-ends m E A d e a at p end stops (omega (arith, c.in_default.ensures)) in
           cc;
     }
 
-pub returns-then-not-is-quote : goal.returns-then-not-is-quote
-returns-then-not-is-quote c =
+pub returns-then-not-is_quote : goal.returns-then-not-is_quote
+returns-then-not-is_quote c =
     let t = c.token in
     let u = c.token-2 in
-    let back = c.in-ok-expect.ensures in
+    let back = c.in_ok-expect.ensures in
     let m = c.args.self.now.src.now in
     let at = c.expect.new.self.pos in
     let p = u.new.self.pos in
@@ -65,7 +65,7 @@ returns-then-not-is-quote c =
           let first = to_sign m E A d e a c.args.self.now.pos t.new.self.pos t.ensures.pos t.ensures.stops in
           let old = t.ensures.src in
           let word = back.goes E A (quote d e a) in
-          let on = quote-other m E A d e a at p end stops (omega (arith, byte.0)) (ap quotes (sym is) ∙ sym c.if-not-is-quote.ensures) in
+          let on = quote-other m E A d e a at p end stops (omega (arith, byte.0)) (ap quotes (sym is) ∙ sym c.if-not-is_quote.ensures) in
           cc;
     }
 
@@ -73,7 +73,7 @@ pub returns : goal.returns
 returns c =
     let t = c.token in
     let u = c.token-2 in
-    let back = c.in-ok-expect.ensures in
+    let back = c.in_ok-expect.ensures in
     let m = c.args.self.now.src.now in
     let at = c.expect.new.self.pos in
     let p = u.new.self.pos in
@@ -91,6 +91,6 @@ returns c =
           let first = to_sign m E A d e a c.args.self.now.pos t.new.self.pos t.ensures.pos t.ensures.stops in
           let old = t.ensures.src in
           let word = back.goes E A (quote d e a) in
-          let on = quote-next m E A d e a at p end stops (omega (arith, byte.0)) (ap quotes (sym is) ∙ sym c.if-not-is-quote.ensures) in
+          let on = quote-next m E A d e a at p end stops (omega (arith, byte.0)) (ap quotes (sym is) ∙ sym c.if-not-is_quote.ensures) in
           cc;
     }

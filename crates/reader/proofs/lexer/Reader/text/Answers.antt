@@ -2,8 +2,8 @@ use Rattle.std.proofs.Common.{◌≡◌, ◌+◌, ◌<◌, ◌≤◌, length, ge
 use Rattle.reader.proofs.Tags.{text-ends, text-done, text-amp, text-other}
 use Rattle.reader.proofs.lexer.Reader.text.Goals as goal
 
-pub returns-in-default : goal.returns-in-default
-returns-in-default c =
+pub returns-in_default : goal.returns-in_default
+returns-in_default c =
     let t = c.token-text in
     let p = t.new.self.pos in
     let long = ap length t.ensures.src in
@@ -11,7 +11,7 @@ returns-in-default c =
       src = t.ensures.src;
       further = omega (arith, t.ensures.pos);
       goes = λ E A d e.
-          let on = text-ends c.args.self.now.src.now E A d e c.args.self.now.pos p t.ensures.pos t.ensures.stops (omega (arith, c.in-default.ensures)) in
+          let on = text-ends c.args.self.now.src.now E A d e c.args.self.now.pos p t.ensures.pos t.ensures.stops (omega (arith, c.in_default.ensures)) in
           cc;
     }
 

@@ -4,11 +4,11 @@ use Rattle.reader.specs.Bytes.{plain}
 use Rattle.reader.proofs.Tags.{value-ends, value-done, value-amp, value-other}
 use Rattle.reader.proofs.lexer.Reader.value.Goals as goal
 
-pub returns-in-default : goal.returns-in-default
-returns-in-default c =
+pub returns-in_default : goal.returns-in_default
+returns-in_default c =
     let t = c.token-value in
-    let q = c.in-ok-quote.quote in
-    let back = c.in-ok-quote.ensures in
+    let q = c.in_ok-quote.quote in
+    let back = c.in_ok-quote.ensures in
     let m = c.args.self.now.src.now in
     let at = c.opening.new.self.pos in
     let p = t.new.self.pos in
@@ -20,15 +20,15 @@ returns-in-default c =
       further = omega (arith, t.ensures.pos, back.further);
       goes = λ E A d e a.
           let first = back.goes E A d e a in
-          let on = value-ends m E A d e a q at p end stops (omega (arith, c.in-default.ensures)) in
+          let on = value-ends m E A d e a q at p end stops (omega (arith, c.in_default.ensures)) in
           cc;
     }
 
 pub returns-then-b-quote : goal.returns-then-b-quote
 returns-then-b-quote c =
     let t = c.token-value in
-    let q = c.in-ok-quote.quote in
-    let back = c.in-ok-quote.ensures in
+    let q = c.in_ok-quote.quote in
+    let back = c.in_ok-quote.ensures in
     let m = c.args.self.now.src.now in
     let at = c.opening.new.self.pos in
     let p = t.new.self.pos in
@@ -50,8 +50,8 @@ returns-then-b-quote c =
 pub returns-then-b-eq38 : goal.returns-then-b-eq38
 returns-then-b-eq38 c =
     let t = c.token-value in
-    let q = c.in-ok-quote.quote in
-    let back = c.in-ok-quote.ensures in
+    let q = c.in_ok-quote.quote in
+    let back = c.in_ok-quote.ensures in
     let m = c.args.self.now.src.now in
     let at = c.opening.new.self.pos in
     let p = t.new.self.pos in
@@ -72,8 +72,8 @@ returns-then-b-eq38 c =
 pub returns : goal.returns
 returns c =
     let t = c.token-value in
-    let q = c.in-ok-quote.quote in
-    let back = c.in-ok-quote.ensures in
+    let q = c.in_ok-quote.quote in
+    let back = c.in_ok-quote.ensures in
     let m = c.args.self.now.src.now in
     let at = c.opening.new.self.pos in
     let p = t.new.self.pos in

@@ -8,8 +8,8 @@ use Rattle.reader.proofs.Runs.{carry}
 use Rattle.reader.proofs.Outside.{angle-ends, angle-comment, angle-close, angle-stray, angle-other, angle-name}
 use Rattle.reader.proofs.lexer.markup.markup.Goals as goal
 
-pub returns-in-default : goal.returns-in-default
-returns-in-default c =
+pub returns-in_default : goal.returns-in_default
+returns-in_default c =
     let m = c.args.reader.now.src.now in
     let p = c.args.reader.now.pos in
     let E = capacity c.args.elements.now in
@@ -22,7 +22,7 @@ returns-in-default c =
       further = omega arith;
       elements = kept_same c.args.elements.now;
       attributes = kept_same c.args.attributes.now;
-      goes = let ends = angle-ends m E A d p (omega (arith, c.in-default.ensures)) in cc;
+      goes = let ends = angle-ends m E A d p (omega (arith, c.in_default.ensures)) in cc;
     }
 
 pub returns-then-b-eq33 : goal.returns-then-b-eq33
@@ -79,18 +79,18 @@ returns-then-b-eq47 c =
     let is = sym byte.1 in
     let moves = c.advance-then-b-eq47.ensures in
     let moved = moves.pos byte.0 in
-    let back = c.close-element.ensures in
+    let back = c.close_element.ensures in
     record {
       src = back.src ∙ moves.src;
       further = omega (arith, back.further);
       elements = kept_same c.args.elements.now;
       attributes = kept_same c.args.attributes.now;
       goes = angle-close m E A d p byte.0 (λ y. c.if-b-eq33.false (sym is ∙ y)) (is ∙ c.if-b-eq47.true) (lt-ltb 0 c.args.nesting.now.depth (omega (arith, c.if-nesting-eq0.false)))
-          ∙ carry m _ E A (close d) (p + 1) _ c.close-element.new.reader.pos c.close-element.result (λ _. outside (document es xs c.close-element.new.nesting.inner c.close-element.new.nesting.depth)) moved moves.src (back.goes E A xs);
+          ∙ carry m _ E A (close d) (p + 1) _ c.close_element.new.reader.pos c.close_element.result (λ _. outside (document es xs c.close_element.new.nesting.inner c.close_element.new.nesting.depth)) moved moves.src (back.goes E A xs);
     }
 
-pub returns-then-not-is-first : goal.returns-then-not-is-first
-returns-then-not-is-first c =
+pub returns-then-not-is_first : goal.returns-then-not-is_first
+returns-then-not-is_first c =
     let m = c.args.reader.now.src.now in
     let p = c.args.reader.now.pos in
     let E = capacity c.args.elements.now in
@@ -100,7 +100,7 @@ returns-then-not-is-first c =
     let d = document es xs c.args.nesting.now.inner c.args.nesting.now.depth in
     let byte = c.in-Some.ensures in
     let is = sym byte.1 in
-    let begun = ap begins is ∙ sym c.if-not-is-first.ensures in
+    let begun = ap begins is ∙ sym c.if-not-is_first.ensures in
     record {
       src = refl;
       further = omega arith;
@@ -109,8 +109,8 @@ returns-then-not-is-first c =
       goes = let other = angle-other m E A d p byte.0 (λ y. c.if-b-eq33.false (sym is ∙ y)) (λ y. c.if-b-eq47.false (sym is ∙ y)) (and_left (begins (get_or m p 0)) (inside d || rootless d) begun) in cc;
     }
 
-pub returns-then-not-may-begin : goal.returns-then-not-may-begin
-returns-then-not-may-begin c =
+pub returns-then-not-may_begin : goal.returns-then-not-may_begin
+returns-then-not-may_begin c =
     let m = c.args.reader.now.src.now in
     let p = c.args.reader.now.pos in
     let E = capacity c.args.elements.now in
@@ -120,7 +120,7 @@ returns-then-not-may-begin c =
     let d = document es xs c.args.nesting.now.inner c.args.nesting.now.depth in
     let byte = c.in-Some.ensures in
     let is = sym byte.1 in
-    let may = ap (λ n. ltb 0 c.args.nesting.now.depth || eqb n 0) (sym c.len.ensures) ∙ sym c.if-not-may-begin.ensures in
+    let may = ap (λ n. ltb 0 c.args.nesting.now.depth || eqb n 0) (sym c.len.ensures) ∙ sym c.if-not-may_begin.ensures in
     record {
       src = refl;
       further = omega arith;
@@ -140,9 +140,9 @@ returns c =
     let d = document es xs c.args.nesting.now.inner c.args.nesting.now.depth in
     let byte = c.in-Some.ensures in
     let is = sym byte.1 in
-    let begun = ap begins is ∙ sym c.if-not-is-first.ensures in
-    let may = ap (λ n. ltb 0 c.args.nesting.now.depth || eqb n 0) (sym c.len.ensures) ∙ sym c.if-not-may-begin.ensures in
-    let back = c.read-element.ensures in
+    let begun = ap begins is ∙ sym c.if-not-is_first.ensures in
+    let may = ap (λ n. ltb 0 c.args.nesting.now.depth || eqb n 0) (sym c.len.ensures) ∙ sym c.if-not-may_begin.ensures in
+    let back = c.read_element.ensures in
     record {
       src = back.src;
       further = back.further;

@@ -6,8 +6,8 @@ use Rattle.reader.specs.declared.fault.ReadRefusal.TheVariants.{Ampersand, Gramm
 use Rattle.reader.proofs.Outside.{outside-done, outside-ends, outside-angle, outside-other}
 use Rattle.reader.proofs.lexer.markup.next_markup.Goals as goal
 
-pub returns-then-is-finished : goal.returns-then-is-finished
-returns-then-is-finished c =
+pub returns-then-is_finished : goal.returns-then-is_finished
+returns-then-is_finished c =
     let m = c.args.reader.now.src.now in
     let at = c.args.reader.now.pos in
     let t = c.token in
@@ -18,11 +18,11 @@ returns-then-is-finished c =
       further = λ e. absurd (clash e);
       goes = λ E A d k rows.
           let far = t.ensures.pos ∙ ap (λ n. at + prefix_len (passes (ltb 0 n)) (drop at m)) (sym k) in
-          outside-done m E A d at p far (omega (arith, c.in-default.ensures)) (ap (λ n. not (ltb 0 n) && not (eqb (length d.elements) 0)) k ∙ ap (λ n. not (ltb 0 c.args.depth) && not (eqb n 0)) rows ∙ sym c.if-is-finished.ensures);
+          outside-done m E A d at p far (omega (arith, c.in_default.ensures)) (ap (λ n. not (ltb 0 n) && not (eqb (length d.elements) 0)) k ∙ ap (λ n. not (ltb 0 c.args.depth) && not (eqb n 0)) rows ∙ sym c.if-is_finished.ensures);
     }
 
-pub returns-in-default : goal.returns-in-default
-returns-in-default c =
+pub returns-in_default : goal.returns-in_default
+returns-in_default c =
     let m = c.args.reader.now.src.now in
     let at = c.args.reader.now.pos in
     let t = c.token in
@@ -33,7 +33,7 @@ returns-in-default c =
       further = omega (arith, t.ensures.pos);
       goes = λ E A d k rows.
           let far = t.ensures.pos ∙ ap (λ n. at + prefix_len (passes (ltb 0 n)) (drop at m)) (sym k) in
-          let ends = outside-ends m E A d at p far (omega (arith, c.in-default.ensures)) (ap (λ n. not (ltb 0 n) && not (eqb (length d.elements) 0)) k ∙ ap (λ n. not (ltb 0 c.args.depth) && not (eqb n 0)) rows ∙ sym c.if-is-finished.ensures) in
+          let ends = outside-ends m E A d at p far (omega (arith, c.in_default.ensures)) (ap (λ n. not (ltb 0 n) && not (eqb (length d.elements) 0)) k ∙ ap (λ n. not (ltb 0 c.args.depth) && not (eqb n 0)) rows ∙ sym c.if-is_finished.ensures) in
           cc;
     }
 

@@ -5,13 +5,13 @@ use Rattle.reader.proofs.Outside.{start_plain, start_declared}
 use Rattle.reader.proofs.Runs.{carry}
 use Rattle.reader.proofs.lexer.markup.prolog.Goals as goal
 
-pub returns-then-not-is-declared : goal.returns-then-not-is-declared
-returns-then-not-is-declared c = record { src = refl; goes = λ at E A. let plain = start_plain c.args.reader.now.src.now E A (sym c.if-not-is-declared.ensures) in cc }
+pub returns-then-not-is_declared : goal.returns-then-not-is_declared
+returns-then-not-is_declared c = record { src = refl; goes = λ at E A. let plain = start_plain c.args.reader.now.src.now E A (sym c.if-not-is_declared.ensures) in cc }
 
 pub returns : goal.returns
 returns c =
     let m = c.args.reader.now.src.now in
-    let is = and_parts _ _ (sym c.if-not-is-declared.ensures) in
+    let is = and_parts _ _ (sym c.if-not-is_declared.ensures) in
     let both = and_parts _ _ is.1 in
     let long = ltb-true 1 (length m) is.0 in
     let one = c.advance.ensures in

@@ -7,8 +7,8 @@ use Rattle.reader.proofs.Keeping.{kept_same}
 use Rattle.reader.proofs.Names.{twice_same, attribute-full, attribute-twice, attribute-on}
 use Rattle.reader.proofs.lexer.markup.read_attribute.Goals as goal
 
-pub returns-then-is-full : goal.returns-then-is-full
-returns-then-is-full c =
+pub returns-then-is_full : goal.returns-then-is_full
+returns-then-is_full c =
     let t = c.token-name in
     record {
       src = t.ensures.src;
@@ -16,12 +16,12 @@ returns-then-is-full c =
       kept = kept_same c.args.attributes.now;
       goes = λ E es o k e row.
           let at = t.ensures.at in
-          let full = attribute-full c.args.reader.now.src.now E (capacity c.args.attributes.now) (document es (held c.args.attributes.now) o k) c.args.reader.now.pos t.new.self.pos t.ensures.pos t.ensures.stops e (sym c.if-is-full.ensures) in
+          let full = attribute-full c.args.reader.now.src.now E (capacity c.args.attributes.now) (document es (held c.args.attributes.now) o k) c.args.reader.now.pos t.new.self.pos t.ensures.pos t.ensures.stops e (sym c.if-is_full.ensures) in
           cc;
     }
 
-pub returns-then-is-twice : goal.returns-then-is-twice
-returns-then-is-twice c =
+pub returns-then-is_twice : goal.returns-then-is_twice
+returns-then-is_twice c =
     let t = c.token-name in
     let m = c.args.reader.now.src.now in
     record {
@@ -30,24 +30,24 @@ returns-then-is-twice c =
       kept = kept_same c.args.attributes.now;
       goes = λ E es o k e row.
           let at = t.ensures.at in
-          let is = twice_same m _ _ _ (length es) _ (held c.args.attributes.now) _ true t.ensures.src t.ensures.text row c.rows.ensures c.if-is-twice.ensures in
-          let two = attribute-twice m E (capacity c.args.attributes.now) (document es (held c.args.attributes.now) o k) c.args.reader.now.pos t.new.self.pos t.ensures.pos t.ensures.stops e (sym c.if-is-full.ensures) is in
+          let is = twice_same m _ _ _ (length es) _ (held c.args.attributes.now) _ true t.ensures.src t.ensures.text row c.rows.ensures c.if-is_twice.ensures in
+          let two = attribute-twice m E (capacity c.args.attributes.now) (document es (held c.args.attributes.now) o k) c.args.reader.now.pos t.new.self.pos t.ensures.pos t.ensures.stops e (sym c.if-is_full.ensures) is in
           cc;
     }
 
-pub returns-in-err-value : goal.returns-in-err-value
-returns-in-err-value c =
+pub returns-in_err-value : goal.returns-in_err-value
+returns-in_err-value c =
     let t = c.token-name in
     let m = c.args.reader.now.src.now in
-    let back = c.in-err-value.ensures in
-    let err = err_from_is_err_and c.from-residual.result c.from-residual.ensures.1 in
+    let back = c.in_err-value.ensures in
+    let err = err_from_is_err_and c.from_residual.result c.from_residual.ensures.1 in
     rw (err.1, err.2) record {
       src = back.src ∙ t.ensures.src;
       further = omega (arith, t.ensures.pos, back.further);
       kept = kept_same c.args.attributes.now;
       goes = λ E es o k e row.
-          let is = twice_same m _ _ _ (length es) _ (held c.args.attributes.now) _ false t.ensures.src t.ensures.text row c.rows.ensures c.if-is-twice.ensures in
-          let on = attribute-on m E (capacity c.args.attributes.now) (document es (held c.args.attributes.now) o k) c.args.reader.now.pos t.new.self.pos t.ensures.pos t.ensures.stops e (sym c.if-is-full.ensures) is in
+          let is = twice_same m _ _ _ (length es) _ (held c.args.attributes.now) _ false t.ensures.src t.ensures.text row c.rows.ensures c.if-is_twice.ensures in
+          let on = attribute-on m E (capacity c.args.attributes.now) (document es (held c.args.attributes.now) o k) c.args.reader.now.pos t.new.self.pos t.ensures.pos t.ensures.stops e (sym c.if-is_full.ensures) is in
           let value = back.goes E (capacity c.args.attributes.now) (document es (held c.args.attributes.now) o k) e (span c.args.reader.now.pos (t.new.self.pos - c.args.reader.now.pos)) in
           let same = t.ensures.src in
           cc;
@@ -57,15 +57,15 @@ pub returns-in-Ok : goal.returns-in-Ok
 returns-in-Ok c =
     let t = c.token-name in
     let m = c.args.reader.now.src.now in
-    let back = c.in-ok-value.ensures in
+    let back = c.in_ok-value.ensures in
     let pushed = c.in-Ok.ensures in
     record {
       src = back.src ∙ t.ensures.src;
       further = omega (arith, t.ensures.pos, back.further);
       kept = record { capacity = pushed.capacity; lent = pushed.lent; clean = pushed.clean };
       goes = λ E es o k e row.
-          let is = twice_same m _ _ _ (length es) _ (held c.args.attributes.now) _ false t.ensures.src t.ensures.text row c.rows.ensures c.if-is-twice.ensures in
-          let on = attribute-on m E (capacity c.args.attributes.now) (document es (held c.args.attributes.now) o k) c.args.reader.now.pos t.new.self.pos t.ensures.pos t.ensures.stops e (sym c.if-is-full.ensures) is in
+          let is = twice_same m _ _ _ (length es) _ (held c.args.attributes.now) _ false t.ensures.src t.ensures.text row c.rows.ensures c.if-is_twice.ensures in
+          let on = attribute-on m E (capacity c.args.attributes.now) (document es (held c.args.attributes.now) o k) c.args.reader.now.pos t.new.self.pos t.ensures.pos t.ensures.stops e (sym c.if-is_full.ensures) is in
           let value = back.goes E (capacity c.args.attributes.now) (document es (held c.args.attributes.now) o k) e (span c.args.reader.now.pos (t.new.self.pos - c.args.reader.now.pos)) in
           let same = t.ensures.src in
           let rows = pushed.answer.1 in

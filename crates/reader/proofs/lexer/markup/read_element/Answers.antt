@@ -23,7 +23,7 @@ returns-then-nesting-ge-LEVELS c =
     let k = c.args.nesting.now.depth in
     let d = document es (held c.args.attributes.now) o k in
     let at = t.ensures.at in
-    let byte = c.saturating-sub-byte.ensures in
+    let byte = c.saturating_sub-byte.ensures in
     record {
       src = t.ensures.src;
       further = omega (arith, t.ensures.pos);
@@ -34,8 +34,8 @@ returns-then-nesting-ge-LEVELS c =
           cc;
     }
 
-pub returns-then-is-full : goal.returns-then-is-full
-returns-then-is-full c =
+pub returns-then-is_full : goal.returns-then-is_full
+returns-then-is_full c =
     let t = c.token-name in
     let m = c.args.reader.now.src.now in
     let p = c.args.reader.now.pos in
@@ -47,19 +47,19 @@ returns-then-is-full c =
     let k = c.args.nesting.now.depth in
     let d = document es (held c.args.attributes.now) o k in
     let at = t.ensures.at in
-    let byte = c.saturating-sub-byte.ensures in
+    let byte = c.saturating_sub-byte.ensures in
     record {
       src = t.ensures.src;
       further = omega (arith, t.ensures.pos);
       elements = kept_same c.args.elements.now;
       attributes = kept_same c.args.attributes.now;
       goes =
-          naming-full m E A d p end t.ensures.pos t.ensures.stops (lt-leb 16 k c.if-nesting-ge-LEVELS.false) (sym c.if-is-full.ensures)
+          naming-full m E A d p end t.ensures.pos t.ensures.stops (lt-leb 16 k c.if-nesting-ge-LEVELS.false) (sym c.if-is_full.ensures)
           ∙ ap (λ b. refused ElementsFull b) (sym (byte ∙ ap (λ b. b - 1) at));
     }
 
-pub returns-in-err-empty : goal.returns-in-err-empty
-returns-in-err-empty c =
+pub returns-in_err-empty : goal.returns-in_err-empty
+returns-in_err-empty c =
     let t = c.token-name in
     let m = c.args.reader.now.src.now in
     let p = c.args.reader.now.pos in
@@ -71,16 +71,16 @@ returns-in-err-empty c =
     let k = c.args.nesting.now.depth in
     let d = document es (held c.args.attributes.now) o k in
     let at = t.ensures.at in
-    let byte = c.saturating-sub-byte.ensures in
-    let back = c.in-err-empty.ensures in
-    let err = err_from_is_err_and c.from-residual.result c.from-residual.ensures.1 in
+    let byte = c.saturating_sub-byte.ensures in
+    let back = c.in_err-empty.ensures in
+    let err = err_from_is_err_and c.from_residual.result c.from_residual.ensures.1 in
     rw (err.1, err.2) record {
       src = back.src ∙ t.ensures.src;
       further = omega (arith, t.ensures.pos, back.further);
       elements = kept_same c.args.elements.now;
       attributes = back.kept;
       goes =
-          let on = naming-on m E A d p end t.ensures.pos t.ensures.stops (lt-leb 16 k c.if-nesting-ge-LEVELS.false) (sym c.if-is-full.ensures) in
+          let on = naming-on m E A d p end t.ensures.pos t.ensures.stops (lt-leb 16 k c.if-nesting-ge-LEVELS.false) (sym c.if-is_full.ensures) in
           let bytes = t.ensures.src in
           let len = t.ensures.len in
           let tags = back.goes E es o k (span p (end - p)) (sym c.len-row.ensures) in
@@ -100,25 +100,25 @@ returns-then-empty c =
     let k = c.args.nesting.now.depth in
     let d = document es (held c.args.attributes.now) o k in
     let at = t.ensures.at in
-    let byte = c.saturating-sub-byte.ensures in
-    let on = naming-on m E A d p end t.ensures.pos t.ensures.stops (lt-leb 16 k c.if-nesting-ge-LEVELS.false) (sym c.if-is-full.ensures) in
-    let back = c.in-ok-empty.ensures in
-    let xs = held c.rest-of-tag.new.attributes in
-    let next = c.rest-of-tag.new.reader.pos in
+    let byte = c.saturating_sub-byte.ensures in
+    let on = naming-on m E A d p end t.ensures.pos t.ensures.stops (lt-leb 16 k c.if-nesting-ge-LEVELS.false) (sym c.if-is_full.ensures) in
+    let back = c.in_ok-empty.ensures in
+    let xs = held c.rest_of_tag.new.attributes in
+    let next = c.rest_of_tag.new.reader.pos in
     let e = span p (end - p) in
     let tags = back.goes E es o k e (sym c.len-row.ensures) in
     let whole = ap (λ n. span n (length t.result.text.now)) at ∙ ap (λ n. span p n) t.ensures.len in
-    let added = c.in-ok-add.ensures in
+    let added = c.in_ok-add.ensures in
     record {
       src = back.src ∙ t.ensures.src;
       further = omega (arith, t.ensures.pos, back.further);
       elements = added.elements;
       attributes = back.kept;
-      goes = behind-empty m _ E A d (document es xs o k) e p end next c.in-ok-empty.empty t.ensures.src on tags c.if-empty.true (held c.add.new.elements) (added.answer ∙ ap (λ n. es ++ (record { name = n; parent = o; level = k + 1; text = span 0 0 } ∷ [])) (c.span.ensures ∙ whole));
+      goes = behind-empty m _ E A d (document es xs o k) e p end next c.in_ok-empty.empty t.ensures.src on tags c.if-empty.true (held c.add.new.elements) (added.answer ∙ ap (λ n. es ++ (record { name = n; parent = o; level = k + 1; text = span 0 0 } ∷ [])) (c.span.ensures ∙ whole));
     }
 
-pub returns-in-err-text : goal.returns-in-err-text
-returns-in-err-text c =
+pub returns-in_err-text : goal.returns-in_err-text
+returns-in_err-text c =
     let t = c.token-name in
     let m = c.args.reader.now.src.now in
     let p = c.args.reader.now.pos in
@@ -130,22 +130,22 @@ returns-in-err-text c =
     let k = c.args.nesting.now.depth in
     let d = document es (held c.args.attributes.now) o k in
     let at = t.ensures.at in
-    let byte = c.saturating-sub-byte.ensures in
-    let on = naming-on m E A d p end t.ensures.pos t.ensures.stops (lt-leb 16 k c.if-nesting-ge-LEVELS.false) (sym c.if-is-full.ensures) in
-    let back = c.in-ok-empty.ensures in
-    let xs = held c.rest-of-tag.new.attributes in
-    let next = c.rest-of-tag.new.reader.pos in
+    let byte = c.saturating_sub-byte.ensures in
+    let on = naming-on m E A d p end t.ensures.pos t.ensures.stops (lt-leb 16 k c.if-nesting-ge-LEVELS.false) (sym c.if-is_full.ensures) in
+    let back = c.in_ok-empty.ensures in
+    let xs = held c.rest_of_tag.new.attributes in
+    let next = c.rest_of_tag.new.reader.pos in
     let e = span p (end - p) in
     let tags = back.goes E es o k e (sym c.len-row.ensures) in
     let whole = ap (λ n. span n (length t.result.text.now)) at ∙ ap (λ n. span p n) t.ensures.len in
-    let words = c.in-err-text.ensures in
-    let err = err_from_is_err_and c.from-residual-in-err-text.result c.from-residual-in-err-text.ensures.1 in
+    let words = c.in_err-text.ensures in
+    let err = err_from_is_err_and c.from_residual-in_err-text.result c.from_residual-in_err-text.ensures.1 in
     rw (err.1, err.2) record {
       src = words.src ∙ back.src ∙ t.ensures.src;
       further = omega (arith, t.ensures.pos, back.further, words.further);
       elements = kept_same c.args.elements.now;
       attributes = back.kept;
-      goes = text-refused m _ E A d (document es xs o k) e p end next c.in-ok-empty.empty t.ensures.src on tags c.if-empty.false _ (back.src ∙ t.ensures.src) _ (words.goes E A (document es xs o k) e);
+      goes = text-refused m _ E A d (document es xs o k) e p end next c.in_ok-empty.empty t.ensures.src on tags c.if-empty.false _ (back.src ∙ t.ensures.src) _ (words.goes E A (document es xs o k) e);
     }
 
 pub returns : goal.returns
@@ -161,21 +161,21 @@ returns c =
     let k = c.args.nesting.now.depth in
     let d = document es (held c.args.attributes.now) o k in
     let at = t.ensures.at in
-    let byte = c.saturating-sub-byte.ensures in
-    let on = naming-on m E A d p end t.ensures.pos t.ensures.stops (lt-leb 16 k c.if-nesting-ge-LEVELS.false) (sym c.if-is-full.ensures) in
-    let back = c.in-ok-empty.ensures in
-    let xs = held c.rest-of-tag.new.attributes in
-    let next = c.rest-of-tag.new.reader.pos in
+    let byte = c.saturating_sub-byte.ensures in
+    let on = naming-on m E A d p end t.ensures.pos t.ensures.stops (lt-leb 16 k c.if-nesting-ge-LEVELS.false) (sym c.if-is_full.ensures) in
+    let back = c.in_ok-empty.ensures in
+    let xs = held c.rest_of_tag.new.attributes in
+    let next = c.rest_of_tag.new.reader.pos in
     let e = span p (end - p) in
     let tags = back.goes E es o k e (sym c.len-row.ensures) in
     let whole = ap (λ n. span n (length t.result.text.now)) at ∙ ap (λ n. span p n) t.ensures.len in
-    let words = c.in-ok-text.ensures in
-    let added = c.in-ok-add-2.ensures in
-    let s = span c.in-ok-text.text.at (length c.in-ok-text.text.text.now) in
+    let words = c.in_ok-text.ensures in
+    let added = c.in_ok-add-2.ensures in
+    let s = span c.in_ok-text.text.at (length c.in_ok-text.text.text.now) in
     record {
       src = words.src ∙ back.src ∙ t.ensures.src;
       further = omega (arith, t.ensures.pos, back.further, words.further);
       elements = added.elements;
       attributes = back.kept;
-      goes = behind-text m _ E A d (document es xs o k) e p end next c.in-ok-empty.empty t.ensures.src on tags c.if-empty.false _ (back.src ∙ t.ensures.src) s c.text.new.self.pos (words.goes E A (document es xs o k) e) (held c.add-2.new.elements) (added.answer ∙ ap (λ n. es ++ (record { name = n; parent = o; level = k + 1; text = c.span-words.result } ∷ [])) (c.span-2.ensures ∙ whole) ∙ ap (λ n. es ++ (record { name = e; parent = o; level = k + 1; text = n } ∷ [])) c.span-words.ensures) c.len-row.result c.len-row.ensures;
+      goes = behind-text m _ E A d (document es xs o k) e p end next c.in_ok-empty.empty t.ensures.src on tags c.if-empty.false _ (back.src ∙ t.ensures.src) s c.text.new.self.pos (words.goes E A (document es xs o k) e) (held c.add-2.new.elements) (added.answer ∙ ap (λ n. es ++ (record { name = n; parent = o; level = k + 1; text = c.span-words.result } ∷ [])) (c.span-2.ensures ∙ whole) ∙ ap (λ n. es ++ (record { name = e; parent = o; level = k + 1; text = n } ∷ [])) c.span-words.ensures) c.len-row.result c.len-row.ensures;
     }

@@ -8,8 +8,8 @@ use Rattle.reader.proofs.Keeping.{kept_same}
 use Rattle.reader.proofs.Tags.{to_tag, tag-ends, tag_open, tag-slash, tag-other, tag-attribute}
 use Rattle.reader.proofs.lexer.markup.tag_part.Goals as goal
 
-pub returns-in-default : goal.returns-in-default
-returns-in-default c =
+pub returns-in_default : goal.returns-in_default
+returns-in_default c =
     let t = c.token-gap in
     let m = c.args.reader.now.src.now in
     let at = c.args.reader.now.pos in
@@ -23,7 +23,7 @@ returns-in-default c =
       goes = λ E es o k e row.
           let d = document es (held c.args.attributes.now) o k in
           let first = to_tag m E room d e at p t.ensures.pos in
-          let ends = tag-ends m E room d e (ltb 0 (p - at)) p (omega (arith, c.in-default.ensures)) in
+          let ends = tag-ends m E room d e (ltb 0 (p - at)) p (omega (arith, c.in_default.ensures)) in
           cc;
     }
 
@@ -50,8 +50,8 @@ returns-then-b-eq62 c =
           cc;
     }
 
-pub returns-in-err-expect : goal.returns-in-err-expect
-returns-in-err-expect c =
+pub returns-in_err-expect : goal.returns-in_err-expect
+returns-in_err-expect c =
     let t = c.token-gap in
     let m = c.args.reader.now.src.now in
     let at = c.args.reader.now.pos in
@@ -63,8 +63,8 @@ returns-in-err-expect c =
     let lt : p < length m = omega (arith, byte.0) in
     let moves = c.advance-then-b-eq47.ensures in
     let moved = moves.pos byte.0 in
-    let back = c.in-err-expect.ensures in
-    let err = err_from_is_err_and c.from-residual.result c.from-residual.ensures.1 in
+    let back = c.in_err-expect.ensures in
+    let err = err_from_is_err_and c.from_residual.result c.from_residual.ensures.1 in
     rw (err.1, err.2) record {
       src = back.src ∙ moves.src ∙ t.ensures.src;
       further = omega (arith, t.ensures.pos, back.further);
@@ -91,7 +91,7 @@ returns-then-b-eq47 c =
     let lt : p < length m = omega (arith, byte.0) in
     let moves = c.advance-then-b-eq47.ensures in
     let moved = moves.pos byte.0 in
-    let back = c.in-ok-expect.ensures in
+    let back = c.in_ok-expect.ensures in
     record {
       src = back.src ∙ moves.src ∙ t.ensures.src;
       further = omega (arith, t.ensures.pos, back.further);
@@ -127,8 +127,8 @@ returns-then-gap-eq0 c =
           cc;
     }
 
-pub returns-then-not-is-first : goal.returns-then-not-is-first
-returns-then-not-is-first c =
+pub returns-then-not-is_first : goal.returns-then-not-is_first
+returns-then-not-is_first c =
     let t = c.token-gap in
     let m = c.args.reader.now.src.now in
     let at = c.args.reader.now.pos in
@@ -145,12 +145,12 @@ returns-then-not-is-first c =
       goes = λ E es o k e row.
           let d = document es (held c.args.attributes.now) o k in
           let first = to_tag m E room d e at p t.ensures.pos in
-          let on = tag-other m E room d e (ltb 0 (p - at)) p lt (t.ensures.stops lt) (λ y. c.if-b-eq62.false (is ∙ y)) (λ y. c.if-b-eq47.false (is ∙ y)) (and_right (ltb 0 (p - at)) (begins (get_or m p 0)) (ap begins (sym is) ∙ sym c.if-not-is-first.ensures)) in
+          let on = tag-other m E room d e (ltb 0 (p - at)) p lt (t.ensures.stops lt) (λ y. c.if-b-eq62.false (is ∙ y)) (λ y. c.if-b-eq47.false (is ∙ y)) (and_right (ltb 0 (p - at)) (begins (get_or m p 0)) (ap begins (sym is) ∙ sym c.if-not-is_first.ensures)) in
           cc;
     }
 
-pub returns-in-err-read-attribute : goal.returns-in-err-read-attribute
-returns-in-err-read-attribute c =
+pub returns-in_err-read_attribute : goal.returns-in_err-read_attribute
+returns-in_err-read_attribute c =
     let t = c.token-gap in
     let m = c.args.reader.now.src.now in
     let at = c.args.reader.now.pos in
@@ -161,8 +161,8 @@ returns-in-err-read-attribute c =
     let is = byte.1 ∙ ap (λ l. get_or l p 0) t.ensures.src in
     let lt : p < length m = omega (arith, byte.0) in
     let spaced : 0 < p - at = omega (arith, t.ensures.len, c.if-gap-eq0.false) in
-    let back = c.in-err-read-attribute.ensures in
-    let err = err_from_is_err_and c.from-residual-in-err-read-attribute.result c.from-residual-in-err-read-attribute.ensures.1 in
+    let back = c.in_err-read_attribute.ensures in
+    let err = err_from_is_err_and c.from_residual-in_err-read_attribute.result c.from_residual-in_err-read_attribute.ensures.1 in
     rw (err.1, err.2) record {
       src = back.src ∙ t.ensures.src;
       further = omega (arith, t.ensures.pos, back.further);
@@ -170,7 +170,7 @@ returns-in-err-read-attribute c =
       goes = λ E es o k e row.
           let d = document es (held c.args.attributes.now) o k in
           let first = to_tag m E room d e at p t.ensures.pos in
-          let begun : begins (get_or m p 0) ≡ true = ap begins (sym is) ∙ sym c.if-not-is-first.ensures in
+          let begun : begins (get_or m p 0) ≡ true = ap begins (sym is) ∙ sym c.if-not-is_first.ensures in
           let on = tag-attribute m E room d e (ltb 0 (p - at)) p lt (t.ensures.stops lt) (λ y. c.if-b-eq62.false (is ∙ y)) (λ y. c.if-b-eq47.false (is ∙ y)) (and_from (ltb 0 (p - at)) (begins (get_or m p 0)) (lt-ltb 0 (p - at) spaced) begun) begun in
           let same = t.ensures.src in
           let read = back.goes E es o k e row in
@@ -189,7 +189,7 @@ returns c =
     let is = byte.1 ∙ ap (λ l. get_or l p 0) t.ensures.src in
     let lt : p < length m = omega (arith, byte.0) in
     let spaced : 0 < p - at = omega (arith, t.ensures.len, c.if-gap-eq0.false) in
-    let back = c.in-ok-read-attribute.ensures in
+    let back = c.in_ok-read_attribute.ensures in
     record {
       src = back.src ∙ t.ensures.src;
       further = omega (arith, t.ensures.pos, back.further);
@@ -197,7 +197,7 @@ returns c =
       goes = λ E es o k e row.
           let d = document es (held c.args.attributes.now) o k in
           let first = to_tag m E room d e at p t.ensures.pos in
-          let begun : begins (get_or m p 0) ≡ true = ap begins (sym is) ∙ sym c.if-not-is-first.ensures in
+          let begun : begins (get_or m p 0) ≡ true = ap begins (sym is) ∙ sym c.if-not-is_first.ensures in
           let on = tag-attribute m E room d e (ltb 0 (p - at)) p lt (t.ensures.stops lt) (λ y. c.if-b-eq62.false (is ∙ y)) (λ y. c.if-b-eq47.false (is ∙ y)) (and_from (ltb 0 (p - at)) (begins (get_or m p 0)) (lt-ltb 0 (p - at) spaced) begun) begun in
           let same = t.ensures.src in
           let read = back.goes E es o k e row in
