@@ -1,7 +1,7 @@
 -- The first bytes of a text.
-use Rattle.std.proofs.Common.{◌≡◌, ℕ, min, Bool, List, [], ◌∷◌, length, take, Decides, sym, refl, ap, subst, arith}
+use Rattle.std.proofs.Common.{◌≡◌, ℕ, min, Bool, eqb, List, [], ◌∷◌, length, sym, refl, ap, subst, arith}
 use lib.Seq.{paste}
-use Rattle.std.specs.Cmp.Lexicographic.{Matches}
+use Rattle.std.specs.List.{starts_with}
 use Rattle.std.proofs.lemmas.List.{take_rest}
 use Rattle.output.specs.Text.{after}
 use Rattle.template.specs.Reading.{begins}
@@ -9,11 +9,11 @@ use Rattle.template.proofs.Words.{begins_from}
 use Rattle.address.specs.Joining.{absolute}
 
 -- what `starts_with` answers
-pub begins_is : (t w : List ℕ) (r : Bool) → Matches (λ (a b : ℕ) (e : Bool). Decides e (a ≡ b)) w (take (length w) t) r →
+pub begins_is : (t w : List ℕ) (r : Bool) → r ≡ starts_with eqb t w →
     r ≡ begins w t
 begins_is t w r h =
     begins_from t w 0 0 r (omega arith)
-    (subst (λ s. Matches (λ (a b : ℕ) (e : Bool). Decides e (a ≡ b)) w (take (length w) s) r) (sym (take_rest t 0)) h)
+    (subst (λ s. r ≡ starts_with eqb s w) (sym (take_rest t 0)) h)
 
 -- eight bytes, none put yet
 abbrev pub blank : List ℕ

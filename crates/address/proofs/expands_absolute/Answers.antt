@@ -9,4 +9,4 @@ pub returns : goal.returns
 returns c =
     let v = c.args.values in
     let text = expansion c.args.template.now v.id.now v.bandwidth v.number v.time in
-    c.is-absolute.ensures ∙ ap absolute c.put-pieces.ensures.left ∙ absolute_front text
+    c.is_absolute.ensures ∙ ap absolute c.put_pieces.ensures.left ∙ absolute_front text

@@ -4,16 +4,16 @@ use Rattle.std.proofs.lemmas.Result.{err_from_is_err_and}
 use Rattle.address.proofs.Texts.{put_unless, expands}
 use Rattle.address.proofs.put_expanded.Goals as goal
 
-pub returns-in-err-put-pieces : goal.returns-in-err-put-pieces
-returns-in-err-put-pieces c =
-    let p = err_from_is_err_and c.from-residual.result c.from-residual.ensures.1 in
+pub returns-in_err-put_pieces : goal.returns-in_err-put_pieces
+returns-in_err-put_pieces c =
+    let p = err_from_is_err_and c.from_residual.result c.from_residual.ensures.1 in
     record {
-      put = put_unless (sym c.if-is-broken.ensures.value) c.in-err-put-pieces.ensures (p.1 ∙ ap Err p.2);
+      put = put_unless (sym c.if-is_broken.ensures.value) c.in_err-put_pieces.ensures (p.1 ∙ ap Err p.2);
       only = expands c.args.id.now c.args.bandwidth c.args.number c.args.time c.args.template.now;
     }
 
 pub returns : goal.returns
 returns c = record {
-  put = put_unless (sym c.if-is-broken.ensures.value) c.in-ok-put-pieces.ensures refl;
+  put = put_unless (sym c.if-is_broken.ensures.value) c.in_ok-put_pieces.ensures refl;
   only = expands c.args.id.now c.args.bandwidth c.args.number c.args.time c.args.template.now;
 }

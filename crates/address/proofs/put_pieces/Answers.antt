@@ -8,15 +8,15 @@ use Rattle.address.proofs.put_pieces.Goals as goal
 pub pieces-init : goal.pieces-init
 pieces-init c = ([], put_none c.args.bytes.now c.hold-guard.result.mark.now.used, refl)
 
-pub returns-in-err-put-piece : goal.returns-in-err-put-piece
-returns-in-err-put-piece c =
+pub returns-in_err-put_piece : goal.returns-in_err-put_piece
+returns-in_err-put_piece c =
     let v = c.args.values in
     let t = c.args.template.now in
     let on = expansion_on v.id.now v.bandwidth v.number v.time t c.pieces.at c.in-Piece.piece c.in-Piece.end c.in-Piece.ensures.told in
     let part = meaning v.id.now v.bandwidth v.number v.time c.in-Piece.piece in
     let rest = expansion (drop c.in-Piece.end t) v.id.now v.bandwidth v.number v.time in
     let whole = sym (more_done c.pieces.invariant.0 part rest c.pieces.invariant.2 on) in
-    let refused = refused_part (then_rest c.pieces.invariant.1 c.in-err-put-piece.ensures) rest in
+    let refused = refused_part (then_rest c.pieces.invariant.1 c.in_err-put_piece.ensures) rest in
     refused_guarded (for_text whole refused) (search rules) (search rules) (search rules)
 
 pub pieces-preserved : goal.pieces-preserved
@@ -27,7 +27,7 @@ pieces-preserved c =
     let part = meaning v.id.now v.bandwidth v.number v.time c.in-Piece.piece in
     let rest = expansion (drop c.in-Piece.end t) v.id.now v.bandwidth v.number v.time in (
       c.pieces.invariant.0 ++ part,
-      then_rest c.pieces.invariant.1 c.in-ok-put-piece.ensures,
+      then_rest c.pieces.invariant.1 c.in_ok-put_piece.ensures,
       more_done c.pieces.invariant.0 part rest c.pieces.invariant.2 on,
     )
 
@@ -36,6 +36,6 @@ returns c =
     let v = c.args.values in
     let t = c.args.template.now in
     let at = c.pieces.at in
-    let stop = expansion_stop v.id.now v.bandwidth v.number v.time at c.piece-at.result (drop at t) c.piece-at.ensures.value c.in-default.not-Piece in
+    let stop = expansion_stop v.id.now v.bandwidth v.number v.time at c.piece_at.result (drop at t) c.piece_at.ensures.value c.in_default.not-Piece in
     let all = for_text (all_done c.pieces.invariant.0 c.pieces.invariant.2 stop) c.pieces.invariant.1 in
     accepted_guarded all (search rules) (search rules)

@@ -7,5 +7,5 @@ pub returns : goal.returns
 returns c =
     let t = c.args.tree.now in
     let set = parent_of t.manifest.now t.elements.now t.attributes.now c.args.row in
-    c.is-child-2.ensures
-    ∙ ap (λ b. b && is_child_at t.manifest.now t.elements.now c.args.period (codes "AdaptationSet") set) c.if-not-is-child.ensures
+    c.is_child-2.ensures
+    ∙ ap (λ b. b && is_child_at t.manifest.now t.elements.now c.args.period (codes "AdaptationSet") set) c.if-not-is_child.ensures

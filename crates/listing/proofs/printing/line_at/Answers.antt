@@ -9,7 +9,7 @@ pub returns-then-place-findings : goal.returns-then-place-findings
 returns-then-place-findings c =
     let fs = c.args.findings.now in
     let es = c.args.elements.now in
-    sym (ap (λ a. nth (lines a es fs) c.args.place) c.in-default.is
+    sym (ap (λ a. nth (lines a es fs) c.args.place) c.in_default.is
     ∙ nth-next (Findings (length fs)) (map (finding_line es) fs) c.args.place (omega (arith, c.if-place-eq0-2.false))
     ∙ nth_past (finding_line es) fs (c.args.place - 1) (omega (arith, c.if-place-findings.true)))
 
@@ -17,9 +17,9 @@ pub returns : goal.returns
 returns c =
     let fs = c.args.findings.now in
     let es = c.args.elements.now in
-    let found = ap (λ a. nth (lines a es fs) c.args.place) c.in-default.is
+    let found = ap (λ a. nth (lines a es fs) c.args.place) c.in_default.is
     ∙ nth-next (Findings (length fs)) (map (finding_line es) fs) c.args.place (omega (arith, c.if-place-eq0-2.false))
     ∙ nth-at (finding_line es) fs (c.args.place - 1) no_finding (omega (arith, c.if-place-eq0-2.false, c.if-place-findings.false)) in
-    let rule = c.number-of.ensures in
-    let byte = c.angle-at.ensures in
+    let rule = c.number_of.ensures in
+    let byte = c.angle_at.ensures in
     cc

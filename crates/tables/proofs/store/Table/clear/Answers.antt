@@ -1,4 +1,4 @@
-use Rattle.std.proofs.Common.{◌≡◌, ◌-◌, ◌<◌, length, take, drop, replicate, sym, ap, ◌∙◌, arith, length-set}
+use Rattle.std.proofs.Common.{◌≡◌, ◌-◌, ◌<◌, length, take, drop, replicate, ap, ◌∙◌, arith, length-set}
 use Rattle.tables.proofs.Steps.{all_zero, wiped}
 use Rattle.tables.proofs.store.Table.clear.Goals as goal
 

@@ -15,5 +15,5 @@ returns g c =
     let address = g.T.Addressed.address s.below in
     let long = length-cutting xs ok s.at in
     let e : ended_by xs 0 + i ≡ i = omega (arith, none_ended xs ok) in
-    moved (within_of xs 0 s.at) (length (cut_off s.at xs)) i i (address (ended_by xs 0 + i)) (address i) c.args.bytes.now c.write-address-within.new.bytes c.args.mark.now.used c.write-address-within.new.mark.used c.write-address-within.result
-    (λ h. omega arith) (λ h. omega arith) (λ _. ap address e) c.write-address-within.ensures
+    moved (within_of xs 0 s.at) (length (cut_off s.at xs)) i i (address (ended_by xs 0 + i)) (address i) c.args.bytes.now c.write_address_within.new.bytes c.args.mark.now.used c.write_address_within.new.mark.used c.write_address_within.result
+    (λ h. omega arith) (λ h. omega arith) (λ _. ap address e) c.write_address_within.ensures

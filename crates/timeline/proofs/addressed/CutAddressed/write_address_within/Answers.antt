@@ -29,5 +29,5 @@ returns g c =
     let address = g.T.Addressed.address s.below in
     let early = c.if-from-self.false in
     let same = within-cut xs ok s.at from to least c.min.ensures early in
-    moved (within_of xs from least) (within_of ys from to) n n (address (ended_by xs from + n)) (address (ended_by ys from + n)) c.args.bytes.now c.write-address-within.new.bytes c.args.mark.now.used c.write-address-within.new.mark.used c.write-address-within.result
-    (λ h. omega arith) (λ h. omega arith) (λ _. ap (λ p. address (p + n)) (places-cut xs ok s.at from early)) c.write-address-within.ensures
+    moved (within_of xs from least) (within_of ys from to) n n (address (ended_by xs from + n)) (address (ended_by ys from + n)) c.args.bytes.now c.write_address_within.new.bytes c.args.mark.now.used c.write_address_within.new.mark.used c.write_address_within.result
+    (λ h. omega arith) (λ h. omega arith) (λ _. ap (λ p. address (p + n)) (places-cut xs ok s.at from early)) c.write_address_within.ensures

@@ -13,5 +13,5 @@ returns g c =
     let i = c.args.place in
     let text = g.T.Addressed.address s.below (ended_by xs s.by + i) in
     let long = length_shift xs ok s.by in
-    moved (within_of xs s.by 18446744073709551615) (length (shifted s.by xs)) i i text text c.args.bytes.now c.write-address-within.new.bytes c.args.mark.now.used c.write-address-within.new.mark.used c.write-address-within.result
-    (λ h. omega arith) (λ h. omega arith) (λ _. refl) c.write-address-within.ensures
+    moved (within_of xs s.by 18446744073709551615) (length (shifted s.by xs)) i i text text c.args.bytes.now c.write_address_within.new.bytes c.args.mark.now.used c.write_address_within.new.mark.used c.write_address_within.result
+    (λ h. omega arith) (λ h. omega arith) (λ _. refl) c.write_address_within.ensures

@@ -24,9 +24,9 @@ returns g c =
     let from = c.args.from in
     let to = c.args.to in
     let n = c.args.nth in
-    let a = c.saturating-add-first.result in
-    let b = c.saturating-add-last.result in
+    let a = c.saturating_add-first.result in
+    let b = c.saturating_add-last.result in
     let address = g.T.Addressed.address s.below in
-    let same = within-shifted xs ok s.by from a c.saturating-add-first.ensures to b c.saturating-add-last.ensures (omega arith) in
-    moved (within_of xs a b) (within_of ys from to) n n (address (ended_by xs a + n)) (address (ended_by xs s.by + (ended_by ys from + n))) c.args.bytes.now c.write-address-within.new.bytes c.args.mark.now.used c.write-address-within.new.mark.used c.write-address-within.result
-    (λ h. omega arith) (λ h. omega arith) (λ _. ap address (places-shifted xs ok s.by from a c.saturating-add-first.ensures n)) c.write-address-within.ensures
+    let same = within-shifted xs ok s.by from a c.saturating_add-first.ensures to b c.saturating_add-last.ensures (omega arith) in
+    moved (within_of xs a b) (within_of ys from to) n n (address (ended_by xs a + n)) (address (ended_by xs s.by + (ended_by ys from + n))) c.args.bytes.now c.write_address_within.new.bytes c.args.mark.now.used c.write_address_within.new.mark.used c.write_address_within.result
+    (λ h. omega arith) (λ h. omega arith) (λ _. ap address (places-shifted xs ok s.by from a c.saturating_add-first.ensures n)) c.write_address_within.ensures

@@ -10,7 +10,7 @@ returns g c =
     let s = c.args.self.now in
     let xs = g.T.Timeline.segments s.below in
     let ok = g.T.Timeline.sound s.below in
-    let m = c.saturating-add.result in
+    let m = c.saturating_add.result in
     let left = ended_left (shifted s.by xs) (sound_shifted s.by xs ok) c.args.tick in
-    let rest = length-after-shifted xs ok s.by c.args.tick m c.saturating-add.ensures in
+    let rest = length-after-shifted xs ok s.by c.args.tick m c.saturating_add.ensures in
     omega (arith, length_shift xs ok s.by, within_all xs ok m)

@@ -6,8 +6,8 @@ use Rattle.timeline.specs.Laws.Tellings.{ends_rise}
 use Rattle.timeline.proofs.Asked.{over_at}
 use Rattle.timeline.proofs.timeline.Timeline.ended.Goals as goal
 
-pub loop-low-preserved-then-is-over : goal.loop-low-preserved-then-is-over
-loop-low-preserved-then-is-over g c =
+pub loop-low-preserved-then-is_over : goal.loop-low-preserved-then-is_over
+loop-low-preserved-then-is_over g c =
     let m = c.loop-low.low + (c.loop-low.high - c.loop-low.low) / 2 in
     let xs = g.Self.Timeline.segments c.args.self.now in
     let ok = g.Self.Timeline.sound c.args.self.now in
@@ -16,7 +16,7 @@ loop-low-preserved-then-is-over g c =
       omega arith,
       c.loop-low.invariant.1,
       (λ i d h.
-          let over = leb-true (end (get_or xs m d)) tick (over_at xs m tick d within c.is-over.result (c.is-over.ensures ∙ ap (over_by tick) c.segment.ensures) ∙ c.if-is-over.true) in
+          let over = leb-true (end (get_or xs m d)) tick (over_at xs m tick d within c.is_over.result (c.is_over.ensures ∙ ap (over_by tick) c.segment.ensures) ∙ c.if-is_over.true) in
           omega (arith, ends_rise xs ok i m d (omega arith) within)),
       c.loop-low.invariant.3,
     )
@@ -32,7 +32,7 @@ loop-low-preserved g c =
       omega arith,
       c.loop-low.invariant.2,
       (λ i d h k.
-          let late = leb-false (end (get_or xs m d)) tick (over_at xs m tick d within c.is-over.result (c.is-over.ensures ∙ ap (over_by tick) c.segment.ensures) ∙ c.if-is-over.false) in
+          let late = leb-false (end (get_or xs m d)) tick (over_at xs m tick d within c.is_over.result (c.is_over.ensures ∙ ap (over_by tick) c.segment.ensures) ∙ c.if-is_over.false) in
           omega (arith, ends_rise xs ok m i d h k)),
     )
 

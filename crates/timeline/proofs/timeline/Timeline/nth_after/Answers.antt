@@ -13,9 +13,9 @@ returns g c =
     let k = c.ended.result in
     let i = c.args.nth in
     let split = counts_split xs ok c.args.from k c.ended.ensures in
-    let same : told xs c.saturating-add.result ≡ told xs (k + i) =
+    let same : told xs c.saturating_add.result ≡ told xs (k + i) =
     elim (cases_lt (k + i) (length xs)) [
-      | inl l ↦ let e : c.saturating-add.result ≡ k + i = omega (arith, ok.few, c.saturating-add.ensures) in ap (told xs) e
-      | inr l ↦ told_past xs c.saturating-add.result (omega (arith, ok.few, c.saturating-add.ensures)) ∙ sym (told_past xs (k + i) l)
+      | inl l ↦ let e : c.saturating_add.result ≡ k + i = omega (arith, ok.few, c.saturating_add.ensures) in ap (told xs) e
+      | inr l ↦ told_past xs c.saturating_add.result (omega (arith, ok.few, c.saturating_add.ensures)) ∙ sym (told_past xs (k + i) l)
     ] in
     c.segment.ensures ∙ same ∙ sym (told_after xs c.args.from k split i)

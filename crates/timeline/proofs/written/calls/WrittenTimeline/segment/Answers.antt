@@ -16,38 +16,38 @@ loop-run-init c =
     let e : t.first ≡ t.first + (c.args.place - c.args.place) = omega arith in
     (omega arith, ap (λ n. told (expanded n t.runs.now) c.args.place) e)
 
-pub overflow-add-result : goal.overflow-add-result
-overflow-add-result c =
+pub overflow_add-result : goal.overflow_add-result
+overflow_add-result c =
     let t = c.args.self.now in
     let runs = t.runs.now in
     let left = c.loop-run.left in
     let number = t.first + (c.args.place - left) in
-    let l = limited_stop number runs c.loop-run.run_index no_run c.loop-run-test.true (of_written t) (sound_written t) c.args.place left c.if-left-run.true c.loop-run.invariant.1 in
+    let l = limited_stop number runs c.loop-run.run-index no_run c.loop-run-test.true (of_written t) (sound_written t) c.args.place left c.if-left-run.true c.loop-run.invariant.1 in
     omega (arith, l.number, c.loop-run.invariant.0)
 
-pub overflow-mul-result : goal.overflow-mul-result
-overflow-mul-result c =
+pub overflow_mul-result : goal.overflow_mul-result
+overflow_mul-result c =
     let t = c.args.self.now in
     let runs = t.runs.now in
     let left = c.loop-run.left in
     let number = t.first + (c.args.place - left) in
-    let l = limited_stop number runs c.loop-run.run_index no_run c.loop-run-test.true (of_written t) (sound_written t) c.args.place left c.if-left-run.true c.loop-run.invariant.1 in
+    let l = limited_stop number runs c.loop-run.run-index no_run c.loop-run-test.true (of_written t) (sound_written t) c.args.place left c.if-left-run.true c.loop-run.invariant.1 in
     omega (arith, l.within, c.loop-run.invariant.0)
 
-pub overflow-add-result-then-left-run : goal.overflow-add-result-then-left-run
-overflow-add-result-then-left-run c =
+pub overflow_add-result-then-left-run : goal.overflow_add-result-then-left-run
+overflow_add-result-then-left-run c =
     let t = c.args.self.now in
     let runs = t.runs.now in
     let left = c.loop-run.left in
     let number = t.first + (c.args.place - left) in
-    let l = limited_stop number runs c.loop-run.run_index no_run c.loop-run-test.true (of_written t) (sound_written t) c.args.place left c.if-left-run.true c.loop-run.invariant.1 in
+    let l = limited_stop number runs c.loop-run.run-index no_run c.loop-run-test.true (of_written t) (sound_written t) c.args.place left c.if-left-run.true c.loop-run.invariant.1 in
     omega (arith, l.within, c.loop-run.invariant.0)
 
 pub returns-then-left-run : goal.returns-then-left-run
 returns-then-left-run c =
     let t = c.args.self.now in
     let runs = t.runs.now in
-    let i = c.loop-run.run_index in
+    let i = c.loop-run.run-index in
     let left = c.loop-run.left in
     let number = t.first + (c.args.place - left) in
     let r = get_or runs i no_run in
@@ -59,7 +59,7 @@ pub loop-run-preserved : goal.loop-run-preserved
 loop-run-preserved c =
     let t = c.args.self.now in
     let runs = t.runs.now in
-    let i = c.loop-run.run_index in
+    let i = c.loop-run.run-index in
     let left = c.loop-run.left in
     let number = t.first + (c.args.place - left) in
     let r = get_or runs i no_run in
@@ -74,4 +74,4 @@ returns c =
     let t = c.args.self.now in
     let left = c.loop-run.left in
     let number = t.first + (c.args.place - left) in
-    sym (c.loop-run.invariant.1 ∙ at_drop_all (λ rs. told (expanded number rs) left) t.runs.now c.loop-run.run_index c.loop-run-test.false)
+    sym (c.loop-run.invariant.1 ∙ at_drop_all (λ rs. told (expanded number rs) left) t.runs.now c.loop-run.run-index c.loop-run-test.false)
