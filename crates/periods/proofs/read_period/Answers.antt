@@ -7,18 +7,18 @@ use Rattle.values.specs.Duration.{duration_of}
 use Rattle.values.specs.Given.{duration}
 use Rattle.periods.proofs.read_period.Goals as goal
 
-pub returns-in-err-duration-if-2 : goal.returns-in-err-duration-if-2
-returns-in-err-duration-if-2 c =
+pub returns-in_err-duration_if-2 : goal.returns-in_err-duration_if-2
+returns-in_err-duration_if-2 c =
     let t = c.args.tree.now in
     let length = value_of t.manifest.now t.attributes.now c.args.row (codes "duration") in
-    let second = read-err duration_of duration (λ _. refl) _ length _ c.attribute-2.ensures.value c.in-err-duration-if-2.ensures false in
-    MatchResult-from_err _ _ _ c.from-residual-in-err-duration-if-2.ensures.0 (λ _. or_right _ _ (or_left _ false second))
+    let second = read-err duration_of duration (λ _. refl) _ length _ c.attribute-2.ensures.value c.in_err-duration_if-2.ensures false in
+    MatchResult-from_err _ _ _ c.from_residual-in_err-duration_if-2.ensures.0 (λ _. or_right _ _ (or_left _ false second))
 
 pub returns : goal.returns
 returns c =
     let t = c.args.tree.now in
     let start = value_of t.manifest.now t.attributes.now c.args.row (codes "start") in
     let length = value_of t.manifest.now t.attributes.now c.args.row (codes "duration") in
-    let first = read_ok duration_of duration (λ _. refl) _ start _ c.attribute.ensures.value c.in-ok-duration-if.ensures in
-    let second = read_ok duration_of duration (λ _. refl) _ length _ c.attribute-2.ensures.value c.in-ok-duration-if-2.ensures in
+    let first = read_ok duration_of duration (λ _. refl) _ start _ c.attribute.ensures.value c.in_ok-duration_if.ensures in
+    let second = read_ok duration_of duration (λ _. refl) _ length _ c.attribute-2.ensures.value c.in_ok-duration_if-2.ensures in
     or_from _ _ first (or_from _ false second refl)
