@@ -14,9 +14,9 @@ returns c =
     let t = c.args.template.now in
     let text = expansion t c.args.id.now c.args.bandwidth 0 0 in
     let whole = subst
-    (λ b. PutsUnless b blank 0 text c.put-expanded.new.bytes c.put-expanded.new.mark.used c.put-expanded.result)
-    c.requires c.put-expanded.ensures.put in
-    let bytes : c.put-expanded.new.bytes ≡ after blank 0 text = whole.1.left in
-    let anew : c.is-absolute.result ≡ absolute text = c.is-absolute.ensures ∙ ap absolute bytes ∙ absolute_front text in
-    let slash : c.is-rooted.result ≡ rooted text = c.is-rooted.ensures ∙ ap rooted bytes ∙ rooted_front text in
+    (λ b. PutsUnless b blank 0 text c.put_expanded.new.bytes c.put_expanded.new.mark.used c.put_expanded.result)
+    c.requires c.put_expanded.ensures.put in
+    let bytes : c.put_expanded.new.bytes ≡ after blank 0 text = whole.1.left in
+    let anew : c.is_absolute.result ≡ absolute text = c.is_absolute.ensures ∙ ap absolute bytes ∙ absolute_front text in
+    let slash : c.is_rooted.result ≡ rooted text = c.is_rooted.ensures ∙ ap rooted bytes ∙ rooted_front text in
     cc
