@@ -15,7 +15,7 @@ returns c =
     let until = c.args.offset + c.args.period in
     let e : c.from.result + c.from-2.result ≡ until = omega arith in
     let f = rw e at c.in-Ok.ensures.answer in
-    let small = c.if-is-too-many.ensures in
+    let small = c.if-is_too_many.ensures in
     let is = holds until rows first total ss after f.0 small f.3 in
     record {
       answer = expands until rows first total ss after f.0 small (rw c.clear.ensures.capacity at (f.2 first));

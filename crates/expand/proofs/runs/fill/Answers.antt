@@ -11,26 +11,26 @@ rows-init c =
     let t = c.args.tree.now in
     (begun c.args.until (capacity c.args.runs.now) (stated t.manifest.now t.elements.now t.attributes.now c.args.timeline) (held c.args.runs.now) c.requires, refl, λ h. h, refl)
 
-pub rows-preserved-then-not-is-child : goal.rows-preserved-then-not-is-child
-rows-preserved-then-not-is-child c =
+pub rows-preserved-then-not-is_child : goal.rows-preserved-then-not-is_child
+rows-preserved-then-not-is_child c =
     let t = c.args.tree.now in
     let inv = c.rows.invariant in
-    (from_more t.manifest.now t.elements.now t.attributes.now c.args.timeline c.rows.row inv.0 c.rows-test.true c.if-not-is-child.ensures, inv.1, inv.2, inv.3)
+    (from_more t.manifest.now t.elements.now t.attributes.now c.args.timeline c.rows.row inv.0 c.rows-test.true c.if-not-is_child.ensures, inv.1, inv.2, inv.3)
 
 pub returns-then-endless : goal.returns-then-endless
 returns-then-endless c =
     let t = c.args.tree.now in
     let inv = c.rows.invariant in
-    let w = from_here t.manifest.now t.elements.now t.attributes.now c.args.timeline c.rows.row inv.0 c.rows-test.true c.if-not-is-child.ensures refl in
+    let w = from_here t.manifest.now t.elements.now t.attributes.now c.args.timeline c.rows.row inv.0 c.rows-test.true c.if-not-is_child.ensures refl in
     record { answer = stops_open w c.if-endless.true; clean = inv.2; capacity = inv.1; lent = inv.3 }
 
-pub returns-in-err-placed : goal.returns-in-err-placed
-returns-in-err-placed c =
+pub returns-in_err-placed : goal.returns-in_err-placed
+returns-in_err-placed c =
     let t = c.args.tree.now in
     let inv = c.rows.invariant in
-    let w = from_here t.manifest.now t.elements.now t.attributes.now c.args.timeline c.rows.row inv.0 c.rows-test.true c.if-not-is-child.ensures c.stated-at-stated.ensures in
-    let p = err_from_is_err_and c.from-residual.result c.from-residual.ensures.1 in
-    let bad = c.in-err-placed.ensures in
+    let w = from_here t.manifest.now t.elements.now t.attributes.now c.args.timeline c.rows.row inv.0 c.rows-test.true c.if-not-is_child.ensures c.stated_at-stated.ensures in
+    let p = err_from_is_err_and c.from_residual.result c.from_residual.ensures.1 in
+    let bad = c.in_err-placed.ensures in
     record {
       answer = rw (p.1, p.2) (λ first. stops w bad.1 first ∙ ap Err (sym bad.0));
       clean = inv.2;
@@ -42,10 +42,10 @@ pub rows-preserved : goal.rows-preserved
 rows-preserved c =
     let t = c.args.tree.now in
     let inv = c.rows.invariant in
-    let w = from_here t.manifest.now t.elements.now t.attributes.now c.args.timeline c.rows.row inv.0 c.rows-test.true c.if-not-is-child.ensures c.stated-at-stated.ensures in
-    let p = c.in-ok-placed.ensures in
+    let w = from_here t.manifest.now t.elements.now t.attributes.now c.args.timeline c.rows.row inv.0 c.rows-test.true c.if-not-is_child.ensures c.stated_at-stated.ensures in
+    let p = c.in_ok-placed.ensures in
     let pushed = rw inv.1 at c.push.ensures.answer in (
-      goes_on w c.if-endless.false p.0 c.push.result p.1 p.2 p.3 c.run-of.ensures c.is-endless-endless.ensures c.is-err-full.ensures.value pushed,
+      goes_on w c.if-endless.false p.0 c.push.result p.1 p.2 p.3 c.run_of.ensures c.is_endless-endless.ensures c.is_err-full.ensures.value pushed,
       c.push.ensures.capacity ∙ inv.1,
       λ h. c.push.ensures.clean no_run (inv.2 h),
       c.push.ensures.lent ∙ inv.3,

@@ -3,18 +3,18 @@ use Rattle.std.proofs.lemmas.Result.{MatchResult-from_err}
 use Rattle.expand.proofs.Readings.{reads, reads_not, reads_past}
 use Rattle.expand.proofs.runs.read_stated.Goals as goal
 
-pub rows-preserved-then-not-is-child : goal.rows-preserved-then-not-is-child
-rows-preserved-then-not-is-child c =
+pub rows-preserved-then-not-is_child : goal.rows-preserved-then-not-is_child
+rows-preserved-then-not-is_child c =
     let t = c.args.tree.now in
-    c.rows.invariant ∙ reads_past t.manifest.now t.elements.now t.attributes.now c.args.timeline c.rows.row c.rows-test.true c.if-not-is-child.ensures
+    c.rows.invariant ∙ reads_past t.manifest.now t.elements.now t.attributes.now c.args.timeline c.rows.row c.rows-test.true c.if-not-is_child.ensures
 
-pub returns-in-err-read-at : goal.returns-in-err-read-at
-returns-in-err-read-at c =
+pub returns-in_err-read_at : goal.returns-in_err-read_at
+returns-in_err-read_at c =
     let t = c.args.tree.now in
-    let not' = c.rows.invariant ∙ reads_not t.manifest.now t.elements.now t.attributes.now c.args.timeline c.rows.row c.rows-test.true c.if-not-is-child.ensures c.in-err-read-at.ensures in
-    MatchResult-from_err _ _ _ c.from-residual.ensures.0 (λ y. not')
+    let not' = c.rows.invariant ∙ reads_not t.manifest.now t.elements.now t.attributes.now c.args.timeline c.rows.row c.rows-test.true c.if-not-is_child.ensures c.in_err-read_at.ensures in
+    MatchResult-from_err _ _ _ c.from_residual.ensures.0 (λ y. not')
 
 pub rows-preserved : goal.rows-preserved
 rows-preserved c =
     let t = c.args.tree.now in
-    c.rows.invariant ∙ reads t.manifest.now t.elements.now t.attributes.now c.args.timeline c.rows.row c.rows-test.true c.if-not-is-child.ensures c.in-ok-read-at.ensures
+    c.rows.invariant ∙ reads t.manifest.now t.elements.now t.attributes.now c.args.timeline c.rows.row c.rows-test.true c.if-not-is_child.ensures c.in_ok-read_at.ensures
