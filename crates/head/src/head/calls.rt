@@ -14,9 +14,9 @@ const FINEST: u32 = 10_000_000;
 impl Head {
     // Goes to the segment that covers the time.
     pub fn seek<T: Timeline>(&mut self, timeline: &T, ms: u64) -> Result<(), HeadFault>
-        ensures answer { result ≡ reply (sought (segments timeline.now) self.old.timescale ms) }
-        ensures head { self.new ≡ moved self.old (sought (segments timeline.now) self.old.timescale ms) }
-        ensures law { Seeks (segments timeline.now) self.old.timescale ms self.new.place result }
+        ensures answer { result ≡ reply (sought (T.Timeline.segments timeline.now) self.old.timescale ms) }
+        ensures head { self.new ≡ moved self.old (sought (T.Timeline.segments timeline.now) self.old.timescale ms) }
+        ensures law { Seeks (T.Timeline.segments timeline.now) self.old.timescale ms self.new.place result }
     {
         if ms > LATEST || self.timescale < 1 || self.timescale > FINEST {
             return Err(HeadFault::OutOfRange);
@@ -35,8 +35,8 @@ impl Head {
 
     // Goes to the next place.
     pub fn on<T: Timeline>(&mut self, timeline: &T) -> Result<(), HeadFault>
-        ensures answer { result ≡ reply (onward (segments timeline.now) self.old.place) }
-        ensures head { self.new ≡ moved self.old (onward (segments timeline.now) self.old.place) }
+        ensures answer { result ≡ reply (onward (T.Timeline.segments timeline.now) self.old.place) }
+        ensures head { self.new ≡ moved self.old (onward (T.Timeline.segments timeline.now) self.old.place) }
     {
         let place = self.here(timeline)?;
         if place + 1 < timeline.count() {
@@ -49,8 +49,8 @@ impl Head {
 
     // Goes to the previous place.
     pub fn back<T: Timeline>(&mut self, timeline: &T) -> Result<(), HeadFault>
-        ensures answer { result ≡ reply (backward (segments timeline.now) self.old.place) }
-        ensures head { self.new ≡ moved self.old (backward (segments timeline.now) self.old.place) }
+        ensures answer { result ≡ reply (backward (T.Timeline.segments timeline.now) self.old.place) }
+        ensures head { self.new ≡ moved self.old (backward (T.Timeline.segments timeline.now) self.old.place) }
     {
         let place = self.here(timeline)?;
         if place > 0 {
@@ -77,7 +77,7 @@ impl Head {
 
     // The place where the head stands, if the timeline has it.
     fn here<T: Timeline>(&self, timeline: &T) -> Result<u32, HeadFault>
-        ensures { found result ≡ standing (segments timeline.now) self.now.place }
+        ensures { found result ≡ standing (T.Timeline.segments timeline.now) self.now.place }
     {
         match self.place {
             Some(place) if place < timeline.count() => Ok(place),
