@@ -32,13 +32,13 @@ fn is_blank(line: &[u8]) -> bool
 fn call_of(line: &[u8]) -> Option<Call>
     ensures { MatchOption result (Silent line.now) (λ call. Says call line.now) }
 {
-    if line == b"on" {
+    if line == b"on".as_slice() {
         return Some(Call::On);
     }
-    if line == b"back" {
+    if line == b"back".as_slice() {
         return Some(Call::Back);
     }
-    if line == b"address" {
+    if line == b"address".as_slice() {
         return Some(Call::Address);
     }
     let Some(time) = line.strip_prefix(b"seek ") else {
