@@ -1,18 +1,14 @@
 -- What is told of a place, and what that says of the list.
-use Rattle.std.proofs.Common.{◌≡◌, ℕ, ◌<◌, ◌≤◌, Bool, true, false, List, [], length, get_or, Ok, Err, Result, sym, refl, ap, ◌∙◌, subst, ⊎_elim, arith}
+use Rattle.std.proofs.Common.{◌≡◌, ℕ, ◌<◌, ◌≤◌, Bool, true, false, List, [], length, get_or, Ok, Err, Result, refl, ap, ◌∙◌, subst, ⊎_elim, arith}
 use borrow.Author.Tests.{clash}
 use Rattle.std.proofs.lemmas.Bool.{cases_lt}
 use Rattle.address.specs.Joining.{address_of}
 use Rattle.address.specs.Putting.{as_fault, PutsUnless}
 use Rattle.address.specs.declared.ExpandFault.{ExpandFault}
-use Rattle.address.specs.declared.ExpandFault.TheVariants.{Broken, NoRoom as FullOf}
 use Rattle.address.specs.declared.Parts.{Parts}
 use Rattle.output.specs.Text.{Puts}
 use Rattle.output.specs.declared.NoRoom.{NoRoom}
 use Rattle.timeline.specs.Addresses.{raised, Addressing}
-use Rattle.timeline.specs.Refusals.{no_such_place}
-use Rattle.timeline.specs.declared.fault.AddressFault.{AddressFault}
-use Rattle.timeline.specs.declared.fault.AddressFault.TheVariants.{NoSuchPlace as missing, NoRoom as full}
 use Rattle.bottom.specs.Placing.{unless, address_at, carried}
 use Rattle.timeline.specs.Segments.{told, blank}
 use Rattle.timeline.specs.Laws.Tellings.{told_at, told_past}

@@ -1,5 +1,5 @@
 -- The S elements of a SegmentTimeline, as they are written.
-use Rattle.std.specs.Prelude.{ℕ, true, false, List, [], ◌∷◌, ◌++◌, map, ℤ, pos, codes}
+use Rattle.std.specs.Prelude.{ℕ, true, false, List, [], ◌∷◌, ◌++◌, map, pos, codes}
 use Rattle.std.specs.Option.{unwrap_or}
 use Rattle.tables.specs.declared.manifest.Attribute.{Attribute}
 use Rattle.tables.specs.declared.manifest.Element.{Element}

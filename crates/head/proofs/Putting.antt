@@ -9,7 +9,7 @@ use Rattle.timeline.specs.declared.segment.Segment.{Segment}
 use Rattle.head.specs.declared.fault.HeadFault.{HeadFault}
 use Rattle.head.specs.declared.step.Call.{Call}
 use Rattle.head.specs.declared.step.Call.TheVariants.{Seek, On, Back, Address}
-use Rattle.head.specs.Heads.{to, raised}
+use Rattle.head.specs.Heads.{raised}
 use Rattle.head.specs.Sequences.{went_through, written_by, Output, Obeys, left_at}
 use Rattle.head.proofs.Writing.{stands_within, standing_cases}
 

@@ -8,7 +8,7 @@ use Rattle.head.specs.declared.fault.HeadFault.TheVariants.{OutOfRange, NoneCove
 use Rattle.head.specs.declared.step.Call.{Call}
 use Rattle.head.specs.declared.step.Call.TheVariants.{Seek, On, Back, Address}
 use Rattle.head.specs.Heads.{Way, to, refused, seekable, tick_of, sought, onward, backward, reply, arrived, Covered, Seeks}
-use Rattle.head.specs.Sequences.{Event, went_through, through, is_seek, is_on, is_back, Stands, Output, Obeys, left_at}
+use Rattle.head.specs.Sequences.{Event, went_through, is_seek, is_on, is_back, Stands, Output, Obeys, left_at}
 use Rattle.head.proofs.Covers.{cover_cases}
 use Rattle.head.proofs.Seeking.{in_range, out_of_range}
 use Rattle.head.proofs.Writing.{apart, same}

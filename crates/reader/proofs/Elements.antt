@@ -1,10 +1,8 @@
 -- From the name of an element to what stands behind its start tag and its text.
-use Rattle.std.proofs.Common.{◌≡◌, ℕ, ◌+◌, Bool, true, false, List, [], ◌∷◌, ◌++◌, length, sym, ap, ◌∙◌}
-use Rattle.tables.specs.Zero.{span}
-use Rattle.tables.specs.declared.manifest.Attribute.{Attribute}
+use Rattle.std.proofs.Common.{◌≡◌, ℕ, ◌+◌, Bool, true, false, List, length, sym, ap, ◌∙◌}
 use Rattle.tables.specs.declared.manifest.Element.{Element}
 use Rattle.tables.specs.declared.span.Span.{Span}
-use Rattle.reader.specs.Machine.{Document, document, State, naming, tag, text, outside, emptied, opened, Outcome, from}
+use Rattle.reader.specs.Machine.{Document, document, naming, tag, text, outside, emptied, opened, Outcome, from}
 use Rattle.reader.specs.Tags.{leads}
 
 module _ (m m₁ : List ℕ) (E A : ℕ) (d d₁ : Document) (e : Span) (p end next : ℕ) (empty : Bool) (same : m₁ ≡ m) where

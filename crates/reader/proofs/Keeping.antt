@@ -1,6 +1,5 @@
 -- Tables that only gain rows.
-use Rattle.std.proofs.Common.{◌≡◌, refl, ◌∙◌}
-use Rattle.tables.specs.Rows.{Clean}
+use Rattle.std.proofs.Common.{refl, ◌∙◌}
 use Rattle.tables.specs.declared.store.Table.{Table}
 use Rattle.reader.specs.Outcomes.{Kept}
 

@@ -1,11 +1,11 @@
 -- The bytes of words, comments and the declaration.
-use Rattle.std.proofs.Common.{◌≡◌, ℕ, ◌+◌, ◌<◌, ◌≤◌, Bool, true, false, cond, ◌&&◌, eqb, leb, List, [], ◌∷◌, length, get_or, drop, sym, refl, ap, ◌∙◌, arith}
+use Rattle.std.proofs.Common.{◌≡◌, ℕ, ◌+◌, ◌<◌, ◌≤◌, Bool, true, false, ◌&&◌, eqb, leb, List, length, get_or, drop, ◌∙◌}
 use Rattle.std.proofs.lemmas.List.{at_drop_more, at_drop_all}
 use Rattle.std.proofs.lemmas.Bool.{eq-eqb, ne_eqb, cond-true, cond-false}
 use Rattle.reader.specs.Bytes.{visible, ascii}
-use Rattle.reader.specs.Machine.{Document, State, word, comment, declaration, outside, nothing, wrong, refused, reads, dashes, step, from}
+use Rattle.reader.specs.Machine.{Document, State, word, comment, declaration, outside, nothing, refused, reads, dashes, from}
 use Rattle.reader.specs.declared.fault.ReadRefusal.TheVariants.{Grammar}
-use Rattle.reader.proofs.Runs.{from_step, from_end, from_to, to_wrong}
+use Rattle.reader.proofs.Runs.{from_end, from_to, to_wrong}
 
 -- the next byte of a word
 pub expecting : (ws : List ℕ) (i : ℕ) → i < length ws → (s : State) → reads (drop i ws) s ≡ word (get_or ws i 0) (drop (i + 1) ws) s

@@ -1,10 +1,9 @@
 -- The bytes between tags, and those that begin a tag or a comment.
-use Rattle.std.proofs.Common.{◌≡◌, ℕ, ◌+◌, ◌<◌, ◌≤◌, Bool, true, false, cond, not, ◌&&◌, ◌||◌, eqb, ltb, List, [], ◌∷◌, length, get_or, drop, sym, refl, ap, ◌∙◌, ⊎_elim, arith}
+use Rattle.std.proofs.Common.{◌≡◌, ℕ, ◌+◌, ◌<◌, ◌≤◌, Bool, true, false, cond, ◌&&◌, ◌||◌, eqb, ltb, List, [], ◌∷◌, length, get_or, drop, sym, refl, ap, ◌∙◌, ⊎_elim, arith}
 use Rattle.std.specs.List.{prefix_len}
 use Rattle.std.proofs.lemmas.Bool.{eq-eqb, ne_eqb, lt-ltb, cases_lt, cases_eq, and_from, cond-true, cond-false}
 use Rattle.reader.specs.Bytes.{blank, begins}
-use Rattle.reader.specs.Machine.{Document, State, start, begun, declaration, outside, angle, word, comment, naming, close, closing, closed, wrong, Outcome, accepted, refused, inside, rootless, finished, nothing, shut, passes, step, from}
-use Rattle.reader.specs.declared.fault.ReadRefusal.{ReadRefusal}
+use Rattle.reader.specs.Machine.{Document, start, begun, declaration, outside, angle, word, comment, naming, close, closing, closed, wrong, accepted, refused, inside, rootless, finished, nothing, shut, passes, step, from}
 use Rattle.reader.specs.declared.fault.ReadRefusal.TheVariants.{Grammar, Ampersand}
 use Rattle.reader.proofs.Runs.{from_end, from_to, to_wrong, from_same, from-stays}
 use Rattle.reader.proofs.Tags.{goes_on}

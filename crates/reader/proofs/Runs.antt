@@ -1,9 +1,9 @@
 -- How a reading goes on from one byte to the next.
-use Rattle.std.proofs.Common.{◌≡◌, ℕ, ◌+◌, ◌<◌, ◌≤◌, Bool, true, false, cond, List, [], ◌∷◌, length, get_or, drop, Result, sym, refl, ap, ◌∙◌, ⊎_elim, add-zero, add_assoc, one-add, arith}
+use Rattle.std.proofs.Common.{◌≡◌, ℕ, ◌+◌, ◌<◌, ◌≤◌, Bool, true, false, cond, List, [], ◌∷◌, length, get_or, drop, Result, sym, refl, ap, ◌∙◌, ⊎_elim, add-zero, add_assoc, one-add}
 use Rattle.std.specs.List.{prefix_len}
 use Rattle.std.proofs.lemmas.List.{at_drop_more, at_drop_all, drop-drop as drops}
 use Rattle.std.proofs.lemmas.Bool.{cases_lt}
-use Rattle.reader.specs.Machine.{State, wrong, Outcome, refused, step, ended, run, from}
+use Rattle.reader.specs.Machine.{State, wrong, refused, step, ended, run, from}
 use Rattle.reader.specs.Outcomes.{went}
 use Rattle.reader.specs.declared.fault.ReadFault.{ReadFault}
 use Rattle.reader.specs.declared.fault.ReadRefusal.{ReadRefusal}

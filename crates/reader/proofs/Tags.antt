@@ -1,12 +1,12 @@
 -- The bytes of tags, values and texts.
-use Rattle.std.proofs.Common.{◌≡◌, ℕ, ◌+◌, ◌-◌, ◌<◌, ◌≤◌, Bool, true, false, cond, ◌&&◌, ◌||◌, eqb, ltb, List, [], ◌∷◌, length, get_or, drop, sym, refl, ap, ◌∙◌, ⊎_elim, arith}
+use Rattle.std.proofs.Common.{◌≡◌, ℕ, ◌+◌, ◌-◌, ◌<◌, ◌≤◌, Bool, true, false, cond, ◌&&◌, ◌||◌, eqb, ltb, List, [], length, get_or, drop, sym, refl, ap, ◌∙◌, ⊎_elim, arith}
 use Rattle.std.specs.List.{prefix_len}
 use Rattle.std.proofs.lemmas.List.Sums.{prefix_len-drop_no, prefix_len-drop_all}
 use Rattle.std.proofs.lemmas.Bool.{eq-eqb, ne_eqb, lt-ltb, le-ltb, cases_lt, cases_Bool, cond-true, cond-false}
 use Rattle.tables.specs.Zero.{span}
 use Rattle.tables.specs.declared.span.Span.{Span}
 use Rattle.reader.specs.Bytes.{blank, begins, goes, from_to as among, quotes, textual, plain}
-use Rattle.reader.specs.Machine.{Document, State, word, attribute, sign, quote, value, tag, text, outside, angle, slash, closed, wrong, Outcome, refused, valued, opened, emptied, shut, step, from}
+use Rattle.reader.specs.Machine.{Document, word, attribute, sign, quote, value, tag, text, outside, angle, slash, wrong, refused, valued, opened, emptied, step, from}
 use Rattle.reader.specs.declared.fault.ReadRefusal.TheVariants.{Grammar, Ampersand}
 use Rattle.reader.proofs.Runs.{from_end, from_to, to_wrong, from_same, from-stays}
 

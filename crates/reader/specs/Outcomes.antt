@@ -1,5 +1,5 @@
 -- What a call of reading answers and leaves.
-use Rattle.std.specs.Prelude.{◌≡◌, ℕ, List, [], Ok, Err, Result}
+use Rattle.std.specs.Prelude.{◌≡◌, List, [], Ok, Err, Result}
 use Rattle.tables.specs.Rows.{held, capacity, Clean}
 use Rattle.tables.specs.declared.manifest.Attribute.{Attribute}
 use Rattle.tables.specs.declared.manifest.Element.{Element}

@@ -12,17 +12,17 @@ use Rattle.resolve.proofs.Outcomes.{refused_answer, refused_first, refused_runs,
 use Rattle.resolve.proofs.Written.{adds_up}
 use Rattle.resolve.proofs.resolving.resolve.Goals as goal
 
-pub returns-in-err-prepared : goal.returns-in-err-prepared
-returns-in-err-prepared c =
+pub returns-in_err-prepared : goal.returns-in_err-prepared
+returns-in_err-prepared c =
     let m = c.args.manifest.now in
     let es = c.args.elements.now in
     let xs = c.args.attributes.now in
     let i = c.args.period in
     let j = c.args.representation in
     let rows = capacity c.args.runs.now in
-    let p = err_from_is_err_and c.from-residual.result c.from-residual.ensures.1 in
-    let e = c.in-err-prepared.field-0.0 in
-    let first = early m es xs i j rows e c.in-err-prepared.ensures in
+    let p = err_from_is_err_and c.from_residual.result c.from_residual.ensures.1 in
+    let e = c.in_err-prepared.field-0.0 in
+    let first = early m es xs i j rows e c.in_err-prepared.ensures in
     rw (p.1, p.2) record {
       answer = refused_answer m es xs i j rows e first;
       first = refused_first m es xs i j rows e first;
@@ -34,24 +34,24 @@ returns-in-err-prepared c =
       lent = c.clear.ensures.lent;
     }
 
-pub returns-in-err-kind : goal.returns-in-err-kind
-returns-in-err-kind c =
+pub returns-in_err-kind : goal.returns-in_err-kind
+returns-in_err-kind c =
     let m = c.args.manifest.now in
     let es = c.args.elements.now in
     let xs = c.args.attributes.now in
     let i = c.args.period in
     let j = c.args.representation in
     let rows = capacity c.args.runs.now in
-    let q = c.in-ok-prepared.prepared in
-    let so = c.in-ok-prepared.ensures in
-    let p = err_from_is_err_and c.from-residual-in-err-kind.result c.from-residual-in-err-kind.ensures.1 in
-    let e = c.in-err-kind.field-0.0 in
-    let refused : first_of (timing m es xs q rows) ≡ Some e = subst (λ n. first_of (timing m es xs q n) ≡ Some e) c.clear.ensures.capacity c.in-err-kind.ensures.answer in
+    let q = c.in_ok-prepared.prepared in
+    let so = c.in_ok-prepared.ensures in
+    let p = err_from_is_err_and c.from_residual-in_err-kind.result c.from_residual-in_err-kind.ensures.1 in
+    let e = c.in_err-kind.field-0.0 in
+    let refused : first_of (timing m es xs q rows) ≡ Some e = subst (λ n. first_of (timing m es xs q n) ≡ Some e) c.clear.ensures.capacity c.in_err-kind.ensures.answer in
     let first = untimed m es xs i j rows q so.0 so.1 e refused in
     rw (p.1, p.2) record {
       answer = refused_answer m es xs i j rows e first;
       first = refused_first m es xs i j rows e first;
-      runs = refused_runs m es xs i j rows e first (held c.give.new.runs) (c.give.ensures.runs ∙ ap (λ o. leaving m es xs o (runs_by m es xs q)) c.in-err-kind.ensures.answer);
+      runs = refused_runs m es xs i j rows e first (held c.give.new.runs) (c.give.ensures.runs ∙ ap (λ o. leaving m es xs o (runs_by m es xs q)) c.in_err-kind.ensures.answer);
       sum = tt;
       whole = tt;
       clean = c.give.ensures.clean;
@@ -61,7 +61,7 @@ returns-in-err-kind c =
 
 pub address-requires : goal.address-requires
 address-requires c =
-    media_whole c.args.manifest.now c.args.elements.now c.args.attributes.now c.args.period c.args.representation c.in-ok-prepared.ensures.0 c.in-ok-prepared.prepared.chosen
+    media_whole c.args.manifest.now c.args.elements.now c.args.attributes.now c.args.period c.args.representation c.in_ok-prepared.ensures.0 c.in_ok-prepared.prepared.chosen
 
 pub returns-in-Some : goal.returns-in-Some
 returns-in-Some c =
@@ -71,19 +71,19 @@ returns-in-Some c =
     let i = c.args.period in
     let j = c.args.representation in
     let rows = capacity c.args.runs.now in
-    let q = c.in-ok-prepared.prepared in
-    let so = c.in-ok-prepared.ensures in
-    let timed : first_of (timing m es xs q rows) ≡ None = subst (λ n. first_of (timing m es xs q n) ≡ None) c.clear.ensures.capacity c.in-ok-kind.ensures.answer.0 in
+    let q = c.in_ok-prepared.prepared in
+    let so = c.in_ok-prepared.ensures in
+    let timed : first_of (timing m es xs q rows) ≡ None = subst (λ n. first_of (timing m es xs q n) ≡ None) c.clear.ensures.capacity c.in_ok-kind.ensures.answer.0 in
     let addressed = c.in-Some.ensures in
     let runs = held c.give.new.runs in
-    let plan = c.plan-of.result in
-    let fit : broken plan.parts.template.now ≡ false = ap (λ (v : Values). broken v.texts.template) c.plan-of.ensures ∙ ap (λ (t : Texts). broken t.template) addressed.1 ∙ media_whole m es xs i j so.0 q.chosen in
+    let plan = c.plan_of.result in
+    let fit : broken plan.parts.template.now ≡ false = ap (λ (v : Values). broken v.texts.template) c.plan_of.ensures ∙ ap (λ (t : Texts). broken t.template) addressed.1 ∙ media_whole m es xs i j so.0 q.chosen in
     record {
-      answer = accepted-answer m es xs i j rows q so.0 so.1 timed addressed.0 _ (c.plan-of.ensures ∙ ap (values_with q c.in-ok-kind.kind) addressed.1 ∙ ap (λ k. values_with q k (texts_by m es xs q)) c.in-ok-kind.ensures.answer.1);
+      answer = accepted-answer m es xs i j rows q so.0 so.1 timed addressed.0 _ (c.plan_of.ensures ∙ ap (values_with q c.in_ok-kind.kind) addressed.1 ∙ ap (λ k. values_with q k (texts_by m es xs q)) c.in_ok-kind.ensures.answer.1);
       first = accepted-first m es xs i j rows q so.0 so.1 timed addressed.0;
-      runs = accepted-runs m es xs i j rows q so.0 so.1 timed addressed.0 runs (c.give.ensures.runs ∙ ap (λ o. leaving m es xs o (runs_by m es xs q)) c.in-ok-kind.ensures.answer.0);
+      runs = accepted-runs m es xs i j rows q so.0 so.1 timed addressed.0 runs (c.give.ensures.runs ∙ ap (λ o. leaving m es xs o (runs_by m es xs q)) c.in_ok-kind.ensures.answer.0);
       sum = adds_up (values_of plan) runs;
-      whole = ap (λ b. unless b (given_by plan.kind plan.first plan.period runs)) fit ∙ subst (λ (v : Values). given_by v.kind v.first v.period runs ≡ defined_by v.kind v.first v.period runs) (sym c.plan-of.ensures) c.in-ok-kind.ensures.whole;
+      whole = ap (λ b. unless b (given_by plan.kind plan.first plan.period runs)) fit ∙ subst (λ (v : Values). given_by v.kind v.first v.period runs ≡ defined_by v.kind v.first v.period runs) (sym c.plan_of.ensures) c.in_ok-kind.ensures.whole;
       clean = c.give.ensures.clean;
       capacity = c.give.ensures.capacity ∙ c.clear.ensures.capacity;
       lent = c.give.ensures.lent ∙ c.clear.ensures.lent;
@@ -97,9 +97,9 @@ returns-in-None c =
     let i = c.args.period in
     let j = c.args.representation in
     let rows = capacity c.args.runs.now in
-    let q = c.in-ok-prepared.prepared in
-    let so = c.in-ok-prepared.ensures in
-    let timed : first_of (timing m es xs q rows) ≡ None = subst (λ n. first_of (timing m es xs q n) ≡ None) c.clear.ensures.capacity c.in-ok-kind.ensures.answer.0 in
+    let q = c.in_ok-prepared.prepared in
+    let so = c.in_ok-prepared.ensures in
+    let timed : first_of (timing m es xs q rows) ≡ None = subst (λ n. first_of (timing m es xs q n) ≡ None) c.clear.ensures.capacity c.in_ok-kind.ensures.answer.0 in
     let first = unaddressable m es xs i j rows q so.0 so.1 timed c.in-None.ensures in
     record {
       answer = refused_answer m es xs i j rows NoAddress first;

@@ -1,4 +1,4 @@
-use Rattle.std.proofs.Common.{◌≡◌, ◌++◌, length, drop}
+use Rattle.std.proofs.Common.{◌≡◌, ◌++◌, drop}
 use Rattle.tables.specs.Rows.{held, capacity, Clean}
 use Rattle.rules.specs.Findings.{failing, no_finding}
 use Rattle.rules.specs.Trees.{broken_at}

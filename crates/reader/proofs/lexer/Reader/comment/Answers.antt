@@ -1,4 +1,4 @@
-use Rattle.std.proofs.Common.{◌≡◌, ◌<◌, ◌≤◌, true, false, ◌&&◌, eqb, leb, length, get_or, sym, ap, ◌∙◌, arith}
+use Rattle.std.proofs.Common.{◌&&◌, eqb, leb, length, get_or, sym, ap, ◌∙◌, arith}
 use Rattle.reader.specs.Bytes.{visible}
 use Rattle.reader.specs.Machine.{comment}
 use Rattle.reader.proofs.Lexing.{comment_ends, comment_closed, comment-other, comment-next}

@@ -1,5 +1,5 @@
-use Rattle.std.proofs.Common.{◌≡◌, ℕ, ◌-◌, ◌≤◌, length, codes}
-use Rattle.reader.specs.Machine.{Document, comment, reads, from}
+use Rattle.std.proofs.Common.{◌≡◌, ℕ, ◌-◌, ◌≤◌, length}
+use Rattle.reader.specs.Machine.{Document, comment, from}
 use Rattle.reader.proofs.lexer.Reader.comment.Given as goal
 
 abbrev pub invariant-loop-b : goal.invariant-loop-b

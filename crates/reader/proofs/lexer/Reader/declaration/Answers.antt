@@ -1,4 +1,4 @@
-use Rattle.std.proofs.Common.{◌≡◌, ◌<◌, ◌≤◌, true, false, ◌&&◌, eqb, length, get_or, sym, ap, ◌∙◌, arith}
+use Rattle.std.proofs.Common.{false, ◌&&◌, eqb, length, get_or, sym, ap, ◌∙◌, arith}
 use Rattle.reader.specs.Bytes.{ascii}
 use Rattle.reader.specs.Machine.{declaration}
 use Rattle.reader.proofs.Lexing.{declaration_ends, declaration_closed, declaration-other, declaration-next}

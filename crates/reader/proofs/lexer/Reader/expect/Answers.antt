@@ -1,4 +1,4 @@
-use Rattle.std.proofs.Common.{◌≡◌, ◌+◌, ◌<◌, ◌≤◌, length, get_or, drop, sym, ap, ◌∙◌, arith}
+use Rattle.std.proofs.Common.{◌+◌, length, get_or, drop, sym, ap, ◌∙◌, arith}
 use Rattle.reader.proofs.Lexing.{expecting, expected, word_ends, word_other, word_next}
 use Rattle.reader.proofs.lexer.Reader.expect.Goals as goal
 

@@ -1,4 +1,4 @@
-use Rattle.std.proofs.Common.{◌≡◌, ◌+◌, ◌<◌, ◌≤◌, length, get_or, drop, sym, ap, ◌∙◌, arith}
+use Rattle.std.proofs.Common.{length, get_or, sym, ap, ◌∙◌, arith}
 use Rattle.reader.proofs.Tags.{text-ends, text-done, text-amp, text-other}
 use Rattle.reader.proofs.lexer.Reader.text.Goals as goal
 

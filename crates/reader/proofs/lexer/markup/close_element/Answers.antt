@@ -1,14 +1,9 @@
-use Rattle.std.proofs.Common.{◌≡◌, ◌+◌, ◌-◌, ◌<◌, ◌≤◌, true, false, length, get_or, take, drop, sym, refl, ap, ◌∙◌, arith}
+use Rattle.std.proofs.Common.{◌≡◌, ◌+◌, ◌<◌, true, false, length, get_or, drop, sym, refl, ap, ◌∙◌, arith}
 use Rattle.std.specs.List.{prefix_len}
-use Rattle.std.specs.Str.{bytes_eq}
 use Rattle.std.proofs.lemmas.Result.{err_from_is_err_and}
-use Rattle.std.proofs.lemmas.Bool.{le-leb, lt-leb}
-use Rattle.tables.specs.Parts.{part}
-use Rattle.tables.specs.Rows.{held, capacity}
-use Rattle.tables.specs.Zero.{span, no_element}
+use Rattle.tables.specs.Rows.{held}
 use Rattle.reader.specs.Bytes.{blank, begins}
 use Rattle.reader.specs.Machine.{document, outside, shut}
-use Rattle.reader.proofs.Keeping.{kept_same, kept_trans}
 use Rattle.reader.proofs.Names.{names_same, closing-other, closing-on}
 use Rattle.reader.proofs.Outside.{close-ends, close_other, close-name, to_closed}
 use Rattle.reader.proofs.lexer.markup.close_element.Goals as goal

@@ -1,7 +1,7 @@
-use Rattle.std.proofs.Common.{◌≡◌, ◌+◌, ◌<◌, ◌≤◌, Bool, true, false, cond, not, ◌&&◌, eqb, ltb, length, get_or, drop, sym, refl, ap, ◌∙◌, arith}
+use Rattle.std.proofs.Common.{◌+◌, ◌<◌, cond, not, ◌&&◌, eqb, ltb, length, get_or, drop, sym, ap, ◌∙◌, arith}
 use borrow.Author.Tests.{clash}
 use Rattle.std.specs.List.{prefix_len}
-use Rattle.reader.specs.Machine.{passes, refused}
+use Rattle.reader.specs.Machine.{passes}
 use Rattle.reader.specs.declared.fault.ReadRefusal.TheVariants.{Ampersand, Grammar}
 use Rattle.reader.proofs.Outside.{outside-done, outside-ends, outside-angle, outside-other}
 use Rattle.reader.proofs.lexer.markup.next_markup.Goals as goal

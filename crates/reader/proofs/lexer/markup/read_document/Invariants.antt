@@ -1,6 +1,6 @@
-use Rattle.std.proofs.Common.{◌≡◌, ◌-◌, [], length}
+use Rattle.std.proofs.Common.{◌≡◌, ◌-◌, length}
 use Rattle.tables.specs.Rows.{held, capacity}
-use Rattle.reader.specs.Machine.{document, outside, nothing, from}
+use Rattle.reader.specs.Machine.{document, outside, from}
 use Rattle.reader.specs.Outcomes.{Kept}
 use Rattle.reader.proofs.lexer.markup.read_document.Given as goal
 

@@ -1,4 +1,4 @@
-use Rattle.std.proofs.Common.{◌≡◌, length, sym, refl, subst, arith}
+use Rattle.std.proofs.Common.{length, sym, refl, subst, arith}
 use Rattle.std.proofs.lemmas.Result.{err_from_is_err_and}
 use Rattle.timeline.specs.Addresses.{Addressing}
 use Rattle.bottom.specs.Placing.{unless, address_at}
