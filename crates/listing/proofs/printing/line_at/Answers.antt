@@ -1,4 +1,4 @@
-use Rattle.std.proofs.Common.{◌≡◌, ◌-◌, ◌<◌, ◌∷◌, map, length, get_or, sym, ap, ◌∙◌, arith}
+use Rattle.std.proofs.Common.{◌-◌, map, length, sym, ap, ◌∙◌, arith}
 use Rattle.rules.specs.Findings.{no_finding}
 use Rattle.listing.specs.Lines.{finding_line, nth, lines}
 use Rattle.listing.specs.declared.printing.Line.TheVariants.{Findings}
