@@ -2,7 +2,7 @@
 use Rattle.std.proofs.Common.{◌≡◌, ℕ, zero, suc, ◌+◌, ◌-◌, ◌*◌, ◌/◌, ◌%◌, ◌^◌, ◌<◌, ◌≤◌, max, true, false, cond, leb, List, [], ◌∷◌, ◌++◌, length, get_or, take, sym, refl, ap, ◌∙◌, subst, ⊎_elim, pow-suc, add-one, arith, le-leb}
 use native.Mathlib.Nat.{pow-le-pow_right}
 use borrow.Author.Tests.{lt-leb}
-use Rattle.std.specs.List.{AllByRecursion as All}
+use Rattle.std.specs.List.{AllByRecursion}
 use Rattle.std.proofs.ByRecursion.{All-push, All-get_or, All-take}
 use Rattle.std.proofs.lemmas.List.{get_or_append_left, length_push, get_or-take, length-take-le, nil_from_length, take_all, take_more}
 use Rattle.std.proofs.lemmas.Bool.{cases_lt}
@@ -15,7 +15,7 @@ length-last_digits : (k n : ℕ) → length (last_digits k n) ≡ k
 length-last_digits zero n = refl
 length-last_digits (suc k) n = length_push (last_digits k (n / 10)) (48 + n % 10) ∙ add-one (length (last_digits k (n / 10))) ∙ ap suc (length-last_digits k (n / 10))
 
-all_digits : (k n : ℕ) → All Digit (last_digits k n)
+all_digits : (k n : ℕ) → AllByRecursion Digit (last_digits k n)
 all_digits zero n = tt
 all_digits (suc k) n = All-push Digit (last_digits k (n / 10)) (48 + n % 10) (all_digits k (n / 10)) (omega arith, omega arith)
 
@@ -87,7 +87,7 @@ value_last : (k : ℕ) (text : List ℕ) → length text ≡ suc k → value_aft
 value_last k text long = ap (value_after 0) (split_last k text long) ∙ value_push 0 (take k text) (get_or text k 0)
 
 -- digits are the last digits of the number that they write, which is below the power of their count
-digits_back : (k : ℕ) (text : List ℕ) → length text ≡ k → All Digit text → (text ≡ last_digits k (value_after 0 text)) × (value_after 0 text < 10 ^ k)
+digits_back : (k : ℕ) (text : List ℕ) → length text ≡ k → AllByRecursion Digit text → (text ≡ last_digits k (value_after 0 text)) × (value_after 0 text < 10 ^ k)
 digits_back zero text long all =
     let none : text ≡ [] = nil_from_length text long in
     (none, subst (λ t. value_after 0 t < 10 ^ 0) (sym none) (omega arith))

@@ -1,6 +1,6 @@
 -- How a number is written in decimal.
 use Rattle.std.specs.Prelude.{◌≡◌, ℕ, zero, suc, ◌+◌, ◌-◌, ◌*◌, ◌/◌, ◌%◌, ◌^◌, ◌<◌, ◌≤◌, min, max, cond, List, [], ◌∷◌, ◌++◌, length, nat_le, slice_index}
-use Rattle.std.specs.List.{AllByRecursion as All}
+use Rattle.std.specs.List.{AllByRecursion}
 
 -- the last k decimal digits of n, as bytes, zeros on the left
 abbrev pub last_digits : ℕ → ℕ → List ℕ
@@ -35,7 +35,7 @@ value_after n (byte ∷ rest) = value_after (n * 10 + (byte - 48)) rest
 
 -- the text is n in decimal, at least as long as the width, and longer only where its first digit needs the place
 pub record Decimal (width n : ℕ) (text : List ℕ) : Type 0 where
-  pub digits : All Digit text
+  pub digits : AllByRecursion Digit text
   pub value : value_after 0 text ≡ n
   pub wide : width_of width ≤ length text
   pub tight : width_of width < length text → 48 < slice_index text 0

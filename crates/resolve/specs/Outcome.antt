@@ -1,7 +1,7 @@
 -- What comes of resolving rows: the first refusal that applies, or the values and the runs.
 use Rattle.std.specs.Prelude.{◌≡◌, ℕ, ◌+◌, Bool, true, false, cond, not, ◌&&◌, ◌||◌, List, [], ◌∷◌, ◌++◌, length, is_some, Some, None, Ok, Err, codes, Option, Result, nat_lt}
 use Rattle.std.specs.Option.{unwrap_or}
-use Rattle.std.specs.List.{AllByRecursion as All}
+use Rattle.std.specs.List.{AllByRecursion}
 use Rattle.chosen.specs.Choosing.{is_static, chosen, templated, timeline_in, base_of}
 use Rattle.chosen.specs.declared.Chosen.{Chosen}
 use Rattle.expand.specs.Expanding.{some, misplaced, runs_of, too_many}
@@ -44,8 +44,8 @@ abbrev pub Unmet : Condition → Type 0
 Unmet c = c.0 ≡ false
 
 abbrev pub IsFirst : List Condition → Option ResolveFault → Type 0
-IsFirst cs None = All Unmet cs
-IsFirst cs (Some e) = (before : List Condition) × (after : List Condition) × (cs ≡ before ++ ((true, e) ∷ after)) × All Unmet before
+IsFirst cs None = AllByRecursion Unmet cs
+IsFirst cs (Some e) = (before : List Condition) × (after : List Condition) × (cs ≡ before ++ ((true, e) ∷ after)) × AllByRecursion Unmet before
 
 -- whether there are both or neither
 abbrev pub alike : Bool → Bool → Bool

@@ -3,7 +3,7 @@ use Rattle.std.proofs.Common.{◌≡◌, ℕ, zero, suc, ◌+◌, ◌-◌, ◌<�
 use Rattle.std.proofs.ByRecursion.{All-get_or, All-append, All-weaker, has_append_left, has_append_right}
 use Rattle.std.proofs.lemmas.List.{get_or_append_left, get_or-append_right}
 use Rattle.std.proofs.lemmas.Bool.{cases_eq, cases_lt, cond-true, cond_both}
-use Rattle.std.specs.List.{ContainsAt as Has, AllByRecursion as All}
+use Rattle.std.specs.List.{ContainsAt as Has, AllByRecursion}
 use Rattle.tables.specs.declared.manifest.Attribute.{Attribute}
 use Rattle.tables.specs.declared.manifest.Element.{Element}
 use Rattle.rules.specs.Broken.{broken, number, rules}
@@ -16,12 +16,12 @@ use Rattle.rules.specs.declared.rule.Rule.TheVariants.{DynamicUnanchored, Static
 abbrev Ordered : List Finding → Type 0
 Ordered xs = (i j : ℕ) → i < j → j < length xs → Before (get_or xs i no_finding) (get_or xs j no_finding)
 
-ordered_cons : (x : Finding) (xs : List Finding) → All (Before x) xs → Ordered xs → Ordered (x ∷ xs)
+ordered_cons : (x : Finding) (xs : List Finding) → AllByRecursion (Before x) xs → Ordered xs → Ordered (x ∷ xs)
 ordered_cons x xs first rest i zero l h = absurd (omega arith)
 ordered_cons x xs first rest zero (suc j) l h = All-get_or (Before x) xs j no_finding (omega arith) first
 ordered_cons x xs first rest (suc i) (suc j) l h = rest i j (omega arith) (omega arith)
 
-module _ (k : ℕ) (xs ys : List Finding) (low : All (λ x. x.element < k) xs) (here : All (λ y. y.element ≡ k) ys) where
+module _ (k : ℕ) (xs ys : List Finding) (low : AllByRecursion (λ x. x.element < k) xs) (here : AllByRecursion (λ y. y.element ≡ k) ys) where
   ordered_append : Ordered xs → Ordered ys → Ordered (xs ++ ys)
   ordered_append ox oy i j l h =
       let long = length-append xs ys in
@@ -73,20 +73,20 @@ module _ (p : Rule → Bool) (e : ℕ) where
   abbrev Fails : Finding → Type 0
   Fails x = (f : Rule) × (p f ≡ true) × (x ≡ finding f e)
 
-  all_fail : (fs : List Rule) → All Fails (failing p e fs)
+  all_fail : (fs : List Rule) → AllByRecursion Fails (failing p e fs)
   all_fail [] = tt
-  all_fail (f ∷ fs) = cond_both (p f) (finding f e ∷ failing p e fs) (failing p e fs) (All Fails) (λ b. ((f, b, refl), all_fail fs)) (λ b. all_fail fs)
+  all_fail (f ∷ fs) = cond_both (p f) (finding f e ∷ failing p e fs) (failing p e fs) (AllByRecursion Fails) (λ b. ((f, b, refl), all_fail fs)) (λ b. all_fail fs)
 
-  all_here : (fs : List Rule) → All (λ x. x.element ≡ e) (failing p e fs)
+  all_here : (fs : List Rule) → AllByRecursion (λ x. x.element ≡ e) (failing p e fs)
   all_here fs = All-weaker Fails (λ x. x.element ≡ e) (λ x h. ap (λ y. y.element) h.2) (failing p e fs) (all_fail fs)
 
-  all_above : (n : ℕ) (fs : List Rule) → Rising n fs → All (λ x. n < number_of x.rule) (failing p e fs)
+  all_above : (n : ℕ) (fs : List Rule) → Rising n fs → AllByRecursion (λ x. n < number_of x.rule) (failing p e fs)
   all_above n [] r = tt
   all_above n (f ∷ fs) r =
-      let rest : All (λ x. n < number_of x.rule) (failing p e fs) = All-weaker (λ x. number f < number_of x.rule) (λ x. n < number_of x.rule) (λ x h. omega (arith, r.0)) (failing p e fs) (all_above (number f) fs r.1) in
-      cond_both (p f) (finding f e ∷ failing p e fs) (failing p e fs) (All (λ x. n < number_of x.rule)) (λ b. (r.0, rest)) (λ b. rest)
+      let rest : AllByRecursion (λ x. n < number_of x.rule) (failing p e fs) = All-weaker (λ x. number f < number_of x.rule) (λ x. n < number_of x.rule) (λ x h. omega (arith, r.0)) (failing p e fs) (all_above (number f) fs r.1) in
+      cond_both (p f) (finding f e ∷ failing p e fs) (failing p e fs) (AllByRecursion (λ x. n < number_of x.rule)) (λ b. (r.0, rest)) (λ b. rest)
 
-  all_before : (f : Rule) (xs : List Finding) → All (λ x. x.element ≡ e) xs → All (λ x. number f < number_of x.rule) xs → All (Before (finding f e)) xs
+  all_before : (f : Rule) (xs : List Finding) → AllByRecursion (λ x. x.element ≡ e) xs → AllByRecursion (λ x. number f < number_of x.rule) xs → AllByRecursion (Before (finding f e)) xs
   all_before f [] h a = tt
   all_before f (x ∷ xs) h a = (inr (sym h.0, a.0), all_before f xs h.1 a.1)
 
@@ -129,7 +129,7 @@ module _ (m : List ℕ) (es : List Element) (attrs : List Attribute) where
   abbrev Below : ℕ → Finding → Type 0
   Below n x = (f : Rule) × (e : ℕ) × (e < n) × (broken m es attrs e f ≡ true) × (x ≡ finding f e)
 
-  below_sound : (n : ℕ) → All (Below n) (findings_below m es attrs n)
+  below_sound : (n : ℕ) → AllByRecursion (Below n) (findings_below m es attrs n)
   below_sound zero = tt
   below_sound (suc n) =
       let here = failing (broken m es attrs n) n rules in

@@ -1,6 +1,6 @@
 -- What a timeline means: a list of segments, within limits and in order.
 use Rattle.std.specs.Prelude.{ℕ, zero, suc, ◌+◌, ◌^◌, ◌<◌, ◌≤◌, Bool, false, ◌&&◌, ltb, leb, List, [], ◌∷◌, length, get_or, Ok, Err, filter, Result, nat_le, nat_lt, slice_index_or}
-use Rattle.std.specs.List.{AllByRecursion as All}
+use Rattle.std.specs.List.{AllByRecursion}
 use Rattle.timeline.specs.declared.segment.Segment.{Segment}
 use Rattle.timeline.specs.declared.fault.NoSuchPlace.{NoSuchPlace}
 use Rattle.timeline.specs.Refusals.{no_such_place}
@@ -30,7 +30,7 @@ InOrder xs = (i : ℕ) (d : Segment) → i + 1 < length xs → end (slice_index_
 -- the limits and the order of a whole list
 pub record Sound (xs : List Segment) : Type 0 where
   pub few : length xs < 2 ^ 31
-  pub limited : All Limited xs
+  pub limited : AllByRecursion Limited xs
   pub order : InOrder xs
 
 -- what is told of a place: the segment there, and a refusal where there is none

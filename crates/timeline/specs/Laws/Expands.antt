@@ -1,7 +1,7 @@
 -- The list that fair runs write out is within the limits and in order.
 use Rattle.std.specs.Prelude.{◌≡◌, ℕ, ◌+◌, ◌-◌, ◌*◌, ◌^◌, ◌<◌, ◌≤◌, true, List, [], ◌∷◌, ◌++◌, length, get_or, slice_index_or, refl}
 use Rattle.std.proofs.Common.{◌∙◌, inl, inr, arith, add-mul, mul-le-mul_right}
-use Rattle.std.specs.List.{AllByRecursion as All}
+use Rattle.std.specs.List.{AllByRecursion}
 use Rattle.std.proofs.ByRecursion.{All-append, All-from_get_or}
 use Rattle.std.proofs.lemmas.List.{length-append, get_or_append_left, get_or-append_right}
 use Rattle.std.proofs.lemmas.List.FromFn.{length-map-range_with_len, get_or-map-range_with_len}
@@ -44,7 +44,7 @@ inside r i h = omega (arith, add-mul i 1 r.length, mul-le-mul_right {m = i + 1} 
 
 -- the segments of one run
 module _ (number : ℕ) (r : Run) where
-  pub limited_run : 1 ≤ r.length → number + r.count ≤ 4294967296 → run_end r ≤ 9007199254740992 → All Limited (run_list number r)
+  pub limited_run : 1 ≤ r.length → number + r.count ≤ 4294967296 → run_end r ≤ 9007199254740992 → AllByRecursion Limited (run_list number r)
   limited_run long numbers within =
       All-from_get_or Limited (run_list number r) blank (λ i h.
       let k : i < r.count = rw length_run at h in
@@ -55,7 +55,7 @@ module _ (number : ℕ) (r : Run) where
       let j : i < r.count = omega arith in
       rw (get_or-run number r i d j, get_or-run number r (i + 1) d h) (omega (arith, add-mul i 1 r.length))
 
-limited_expanded : (from first : ℕ) (runs : List Run) → fair_from from runs ≡ true → first + many runs ≤ 4294967296 → All Limited (expanded first runs)
+limited_expanded : (from first : ℕ) (runs : List Run) → fair_from from runs ≡ true → first + many runs ≤ 4294967296 → AllByRecursion Limited (expanded first runs)
 limited_expanded from first [] fair numbers = tt
 limited_expanded from first (r ∷ rs) fair numbers =
     let f = fair_parts from r rs fair in
