@@ -11,4 +11,4 @@ returns-in-Some c =
     let runs = c.args.runs.now in
     let plan = c.in-Some.plan in
     same_lines (lines_of c.args.answer es fs runs) (timeline_lines (timeline_of plan runs) (addresses_of plan runs)) c.args.place
-    (ap (λ a. lines_of a es fs runs) c.in-Ok.is ∙ ap (λ o. lines_of (Ok o) es fs runs) c.in-Some.is) c.put-planned.ensures
+    (ap (λ a. lines_of a es fs runs) c.in-Ok.is ∙ ap (λ o. lines_of (Ok o) es fs runs) c.in-Some.is) c.put_planned.ensures

@@ -15,7 +15,7 @@ returns-then-place-eq0 c =
     let fs = c.args.findings.now in
     let line = text (Findings (length fs)) in
     at_line (found_lines es fs) c.args.place line (omega (arith, c.if-place-eq0.true))
-    (sym (at_first line (map (λ (f : Found). text (finding_line es f)) fs) c.args.place c.if-place-eq0.true)) c.put-line.ensures c.raise.ensures
+    (sym (at_first line (map (λ (f : Found). text (finding_line es f)) fs) c.args.place c.if-place-eq0.true)) c.put_line.ensures c.raise.ensures
 
 pub returns-then-place-findings : goal.returns-then-place-findings
 returns-then-place-findings c =
@@ -33,10 +33,10 @@ returns c =
     let i = c.args.place in
     let ls = map (λ (f : Found). text (finding_line es f)) fs in
     let long : length ls ≡ length fs = length-map fs (λ (f : Found). text (finding_line es f)) in
-    let line = text (Finding c.number-of.result c.angle-at.result) in
+    let line = text (Finding c.number_of.result c.angle_at.result) in
     let at = at_next (text (Findings (length fs))) ls i (omega (arith, c.if-place-eq0.false)) in
     let of = get_or-map (λ (f : Found). text (finding_line es f)) fs (i - 1) no_finding [] (omega (arith, c.if-place-eq0.false, c.if-place-findings.false)) in
-    let rule = c.number-of.ensures in
-    let byte = c.angle-at.ensures in
+    let rule = c.number_of.ensures in
+    let byte = c.angle_at.ensures in
     let same : line ≡ get_or (found_lines es fs) i [] = cc in
-    at_line (found_lines es fs) i line (omega (arith, c.if-place-findings.false)) same c.put-line-2.ensures c.raise-2.ensures
+    at_line (found_lines es fs) i line (omega (arith, c.if-place-findings.false)) same c.put_line-2.ensures c.raise-2.ensures

@@ -10,4 +10,4 @@ returns c =
     let fault = c.args.fault in
     let first = at_first (text (Refused c.number.result)) [] c.args.place e in
     at_line (refused_lines fault) c.args.place (text (Refused c.number.result)) (omega arith)
-    (sym first ∙ ap (λ n. get_or (text (Refused n) ∷ []) c.args.place []) c.number.ensures) c.put-line.ensures c.raise.ensures
+    (sym first ∙ ap (λ n. get_or (text (Refused n) ∷ []) c.args.place []) c.number.ensures) c.put_line.ensures c.raise.ensures

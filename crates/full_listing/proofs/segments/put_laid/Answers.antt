@@ -12,7 +12,7 @@ returns-then-place-eq0 g c =
     let xs = g.T.Timeline.segments t in
     let a = g.T.Addressed.address t in
     let first = at_first (text (Findings 0)) (text (Segments (length xs)) ∷ segment_lines a 0 xs) c.args.place c.if-place-eq0.true in
-    at_line (timeline_lines xs a) c.args.place (text (Findings 0)) (omega (arith, c.if-place-eq0.true)) (sym first) c.put-line.ensures c.raise.ensures
+    at_line (timeline_lines xs a) c.args.place (text (Findings 0)) (omega (arith, c.if-place-eq0.true)) (sym first) c.put_line.ensures c.raise.ensures
 
 pub returns-then-place-eq1 : goal.returns-then-place-eq1
 returns-then-place-eq1 g c =
@@ -25,7 +25,7 @@ returns-then-place-eq1 g c =
     let next = at_next (text (Findings 0)) (text (Segments (length xs)) ∷ segment_lines a 0 xs) i (omega (arith, one)) in
     let first = at_first (text (Segments (length xs))) (segment_lines a 0 xs) (i - 1) (omega (arith, one)) in
     let same : line ≡ get_or (timeline_lines xs a) i [] = ap (λ n. text (Segments n)) c.count.ensures ∙ sym (next ∙ first) in
-    at_line (timeline_lines xs a) i line (omega (arith, one)) same c.put-line-then-place-eq1.ensures c.raise-then-place-eq1.ensures
+    at_line (timeline_lines xs a) i line (omega (arith, one)) same c.put_line-then-place-eq1.ensures c.raise-then-place-eq1.ensures
 
 pub returns-then-before : goal.returns-then-before
 returns-then-before g c =
@@ -47,10 +47,10 @@ returns g c =
     let then = at_next (text (Segments (length xs))) (segment_lines a 0 xs) (i - 1) (omega (arith, c.if-place-eq0.false, c.if-place-eq1.false)) in
     let two : i - 1 - 1 ≡ i - 2 = omega arith in
     moved (length xs) (length (timeline_lines xs a)) (i - 2) i (segment_text (get_or xs (i - 2) blank) (a (i - 2))) (get_or (timeline_lines xs a) i [])
-    c.args.bytes.now c.put-segment.new.bytes c.args.mark.now.used c.put-segment.new.mark.used c.put-segment.result
+    c.args.bytes.now c.put_segment.new.bytes c.args.mark.now.used c.put_segment.new.mark.used c.put_segment.result
     (λ h. omega (arith, c.if-place-eq0.false, c.if-place-eq1.false)) (λ h. omega arith)
     (λ h.
     let of = get_or-lines a 0 xs (i - 2) (omega (arith, c.if-place-eq0.false, c.if-place-eq1.false)) in
     let from : 0 + (i - 2) ≡ i - 2 = omega arith in
     sym (next ∙ then ∙ ap (λ n. get_or (segment_lines a 0 xs) n []) two ∙ of ∙ ap (λ n. segment_text (get_or xs (i - 2) blank) (a n)) from))
-    c.put-segment.ensures
+    c.put_segment.ensures

@@ -11,9 +11,9 @@ pub returns : goal.returns
 returns c =
     let plan = c.args.plan in
     let runs = c.args.runs.now in
-    let t = c.lay-out-timeline.result in
+    let t = c.lay_out-timeline.result in
     let xs = unless t.below.below.torn (of_bottom t.below.below.below) in
     let list = cut_off t.at (shifted t.below.by xs) in
     let address = λ (place : ℕ). address_at t.below.below.parts (of_bottom t.below.below.below) (ended_by xs t.below.by + place) in
-    let same = timelines_same address (addresses_of plan runs) list (timeline_of plan runs) c.lay-out-timeline.ensures.list (λ i h. c.lay-out-timeline.ensures.address i h) in
-    same_lines (timeline_lines (timeline_of plan runs) (addresses_of plan runs)) (timeline_lines list address) c.args.place (sym same) c.put-laid.ensures
+    let same = timelines_same address (addresses_of plan runs) list (timeline_of plan runs) c.lay_out-timeline.ensures.list (λ i h. c.lay_out-timeline.ensures.address i h) in
+    same_lines (timeline_lines (timeline_of plan runs) (addresses_of plan runs)) (timeline_lines list address) c.args.place (sym same) c.put_laid.ensures

@@ -7,56 +7,56 @@ use Rattle.full_listing.specs.Lines.{segment_text}
 use Rattle.full_listing.proofs.Lines.{line_put, line_none, address_put, address_refused}
 use Rattle.full_listing.proofs.segments.put_segment.Goals as goal
 
-pub returns-in-err-segment : goal.returns-in-err-segment
-returns-in-err-segment g c =
+pub returns-in_err-segment : goal.returns-in_err-segment
+returns-in_err-segment g c =
     let t = c.args.timeline.now in
     let xs = g.T.Timeline.segments t in
     let i = c.args.place in
-    let p = err_from_is_err_and c.from-residual.result c.from-residual.ensures.1 in
-    line_none xs i c.in-err-segment.field-0.0 (segment_text (get_or xs i blank) (g.T.Addressed.address t i)) c.args.bytes.now c.args.mark.now.used c.from-residual.result
-    c.in-err-segment.ensures (p.1 ∙ ap Err p.2)
+    let p = err_from_is_err_and c.from_residual.result c.from_residual.ensures.1 in
+    line_none xs i c.in_err-segment.field-0.0 (segment_text (get_or xs i blank) (g.T.Addressed.address t i)) c.args.bytes.now c.args.mark.now.used c.from_residual.result
+    c.in_err-segment.ensures (p.1 ∙ ap Err p.2)
 
-pub returns-in-err-put-times : goal.returns-in-err-put-times
-returns-in-err-put-times g c =
-    let p = err_from_is_err_and c.from-residual-in-err-put-times.result c.from-residual-in-err-put-times.ensures.1 in
-    let all = refused_part c.in-err-put-times.ensures (g.T.Addressed.address c.args.timeline.now c.args.place ++ (10 ∷ [])) in
-    line_put (g.T.Timeline.segments c.args.timeline.now) c.args.place c.in-ok-segment.segment (g.T.Addressed.address c.args.timeline.now c.args.place) c.in-ok-segment.ensures (refused_guarded {r = Err c.in-err-put-times.field-0.0} all (search rules) (search rules) refl) (p.1 ∙ ap Err p.2)
+pub returns-in_err-put_times : goal.returns-in_err-put_times
+returns-in_err-put_times g c =
+    let p = err_from_is_err_and c.from_residual-in_err-put_times.result c.from_residual-in_err-put_times.ensures.1 in
+    let all = refused_part c.in_err-put_times.ensures (g.T.Addressed.address c.args.timeline.now c.args.place ++ (10 ∷ [])) in
+    line_put (g.T.Timeline.segments c.args.timeline.now) c.args.place c.in_ok-segment.segment (g.T.Addressed.address c.args.timeline.now c.args.place) c.in_ok-segment.ensures (refused_guarded {r = Err c.in_err-put_times.field-0.0} all (search rules) (search rules) refl) (p.1 ∙ ap Err p.2)
 
-pub returns-in-err-write-address : goal.returns-in-err-write-address
-returns-in-err-write-address g c =
+pub returns-in_err-write_address : goal.returns-in_err-write_address
+returns-in_err-write_address g c =
     let xs = g.T.Timeline.segments c.args.timeline.now in
     let i = c.args.place in
-    let s = c.in-ok-segment.segment in
+    let s = c.in_ok-segment.segment in
     let a = g.T.Addressed.address c.args.timeline.now i in
-    let told = c.in-ok-segment.ensures in
+    let told = c.in_ok-segment.ensures in
     let at = told_some xs i s told in
-    let p = err_from_is_err_and c.from-residual-in-err-write-address.result c.from-residual-in-err-write-address.ensures.1 in
-    let no = address_refused c.in-err-write-address.ensures at.0 in
+    let p = err_from_is_err_and c.from_residual-in_err-write_address.result c.from_residual-in_err-write_address.ensures.1 in
+    let no = address_refused c.in_err-write_address.ensures at.0 in
     let rest = refused_part no.1 (10 ∷ []) in
-    let all = then_rest c.in-ok-put-times.ensures rest in
+    let all = then_rest c.in_ok-put_times.ensures rest in
     line_put xs i s a told (refused_guarded {r = Err no.0} all (search rules) (search rules) refl) (p.1 ∙ ap Err (p.2 ∙ no.2))
 
-pub returns-in-err-put : goal.returns-in-err-put
-returns-in-err-put g c =
+pub returns-in_err-put : goal.returns-in_err-put
+returns-in_err-put g c =
     let xs = g.T.Timeline.segments c.args.timeline.now in
     let i = c.args.place in
-    let s = c.in-ok-segment.segment in
+    let s = c.in_ok-segment.segment in
     let a = g.T.Addressed.address c.args.timeline.now i in
-    let told = c.in-ok-segment.ensures in
+    let told = c.in_ok-segment.ensures in
     let at = told_some xs i s told in
-    let p = err_from_is_err_and c.from-residual-in-err-put.result c.from-residual-in-err-put.ensures.1 in
-    let rest = then_rest (address_put c.in-ok-write-address.ensures at.0) c.in-err-put.ensures in
-    let all = then_rest c.in-ok-put-times.ensures rest in
-    line_put xs i s a told (refused_guarded {r = Err c.in-err-put.field-0.0} all (search rules) (search rules) refl) (p.1 ∙ ap Err p.2)
+    let p = err_from_is_err_and c.from_residual-in_err-put.result c.from_residual-in_err-put.ensures.1 in
+    let rest = then_rest (address_put c.in_ok-write_address.ensures at.0) c.in_err-put.ensures in
+    let all = then_rest c.in_ok-put_times.ensures rest in
+    line_put xs i s a told (refused_guarded {r = Err c.in_err-put.field-0.0} all (search rules) (search rules) refl) (p.1 ∙ ap Err p.2)
 
 pub returns : goal.returns
 returns g c =
     let xs = g.T.Timeline.segments c.args.timeline.now in
     let i = c.args.place in
-    let s = c.in-ok-segment.segment in
+    let s = c.in_ok-segment.segment in
     let a = g.T.Addressed.address c.args.timeline.now i in
-    let told = c.in-ok-segment.ensures in
+    let told = c.in_ok-segment.ensures in
     let at = told_some xs i s told in
-    let rest = then_rest (address_put c.in-ok-write-address.ensures at.0) c.in-ok-put.ensures in
-    let all = then_rest c.in-ok-put-times.ensures rest in
+    let rest = then_rest (address_put c.in_ok-write_address.ensures at.0) c.in_ok-put.ensures in
+    let all = then_rest c.in_ok-put_times.ensures rest in
     line_put xs i s a told (accepted_guarded {v = tt} all (search rules) (search rules)) refl

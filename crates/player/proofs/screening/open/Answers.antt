@@ -6,14 +6,14 @@ use Rattle.tables.specs.Rows.{held, capacity}
 use Rattle.player.proofs.Opened.{opens}
 use Rattle.player.proofs.screening.open.Goals as goal
 
-pub returns-in-err-resolve : goal.returns-in-err-resolve
-returns-in-err-resolve c =
+pub returns-in_err-resolve : goal.returns-in_err-resolve
+returns-in_err-resolve c =
     let m = c.args.manifest.now in
-    let read = c.in-ok-read.ensures in
-    let done = c.in-err-resolve.ensures in
+    let read = c.in_ok-read.ensures in
+    let done = c.in_err-resolve.ensures in
     let rows = c.clear.ensures.capacity in
-    let opened = opens m (capacity c.args.runs.now) (capacity c.clear.new.self) c.args.at.period c.args.at.representation c.rows.result.now c.rows-2.result.now rows (Err c.in-err-resolve.field-0.0) (held c.resolve.new.runs) c.in-ok-read.field-0 (reading m (capacity c.args.elements.now) (capacity c.args.attributes.now)) read.answer (c.rows.ensures ∙ read.elements.held) (c.rows-2.ensures ∙ read.attributes.held) done.answer done.runs in
-    let e = err_from_is_err_and c.from-residual-in-err-resolve.result c.from-residual-in-err-resolve.ensures.1 in
+    let opened = opens m (capacity c.args.runs.now) (capacity c.clear.new.self) c.args.at.period c.args.at.representation c.rows.result.now c.rows-2.result.now rows (Err c.in_err-resolve.field-0.0) (held c.resolve.new.runs) c.in_ok-read.field-0 (reading m (capacity c.args.elements.now) (capacity c.args.attributes.now)) read.answer (c.rows.ensures ∙ read.elements.held) (c.rows-2.ensures ∙ read.attributes.held) done.answer done.runs in
+    let e = err_from_is_err_and c.from_residual-in_err-resolve.result c.from_residual-in_err-resolve.ensures.1 in
     record {
       answer = rw (e.1, e.2) opened.0;
       elements = read.elements;
@@ -25,10 +25,10 @@ returns-in-err-resolve c =
 pub returns : goal.returns
 returns c =
     let m = c.args.manifest.now in
-    let read = c.in-ok-read.ensures in
-    let done = c.in-ok-resolve.ensures in
+    let read = c.in_ok-read.ensures in
+    let done = c.in_ok-resolve.ensures in
     let rows = c.clear.ensures.capacity in
-    let opened = opens m (capacity c.args.runs.now) (capacity c.clear.new.self) c.args.at.period c.args.at.representation c.rows.result.now c.rows-2.result.now rows (Ok (values_of c.in-ok-resolve.field-0)) (held c.resolve.new.runs) c.in-ok-read.field-0 (reading m (capacity c.args.elements.now) (capacity c.args.attributes.now)) read.answer (c.rows.ensures ∙ read.elements.held) (c.rows-2.ensures ∙ read.attributes.held) done.answer done.runs in
+    let opened = opens m (capacity c.args.runs.now) (capacity c.clear.new.self) c.args.at.period c.args.at.representation c.rows.result.now c.rows-2.result.now rows (Ok (values_of c.in_ok-resolve.field-0)) (held c.resolve.new.runs) c.in_ok-read.field-0 (reading m (capacity c.args.elements.now) (capacity c.args.attributes.now)) read.answer (c.rows.ensures ∙ read.elements.held) (c.rows-2.ensures ∙ read.attributes.held) done.answer done.runs in
     record {
       answer = opened.0;
       elements = read.elements;

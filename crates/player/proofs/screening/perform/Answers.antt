@@ -10,8 +10,8 @@ use Rattle.player.proofs.screening.perform.Goals as goal
 
 pub returns : goal.returns
 returns c =
-    let t = c.lay-out-timeline.result in
-    let laid = c.lay-out-timeline.ensures in
+    let t = c.lay_out-timeline.result in
+    let laid = c.lay_out-timeline.ensures in
     let plan = c.args.plan in
     let xs = unless t.below.below.torn (of_bottom t.below.below.below) in
     record {
