@@ -3,10 +3,8 @@ use Rattle.std.proofs.Common.{◌≡◌, ℕ, ◌+◌, ◌-◌, ◌≤◌, min, 
 use Rattle.timeline.proofs.Parts.{parts_add_up}
 use Rattle.timeline.specs.Layers.{shifted, cut_off}
 use Rattle.timeline.specs.Runs.{expanded}
-use Rattle.timeline.specs.Segments.{end}
 use Rattle.timeline.specs.Theorems.{part_before, part_after}
 use Rattle.timeline.specs.declared.run.Run.{Run}
-use Rattle.timeline.specs.declared.segment.Segment.{Segment}
 use Rattle.presentation.specs.Sums.{lengths, Accounts}
 use Rattle.presentation.proofs.Spans.{span_of, sum_runs}
 

@@ -1,7 +1,6 @@
 -- Whether addresses can be made, by the parts that they are made from.
-use Rattle.std.proofs.Common.{◌≡◌, ℕ, Bool, true, false, not, ◌&&◌, ◌||◌, List, [], ◌∷◌, ◌++◌, is_some, Some, None, Option, unwrap_or, sym, refl, ap, ◌∙◌, Bor}
+use Rattle.std.proofs.Common.{◌≡◌, ℕ, Bool, true, false, not, ◌&&◌, ◌||◌, List, [], is_some, Some, None, Option, unwrap_or, sym, refl, ap, ◌∙◌, Bor}
 use Rattle.std.specs.Option.{option_map}
-use Rattle.address.specs.Expansion.{expansion}
 use Rattle.address.specs.Joining.{joined, part_in, parts_of, address_of}
 use Rattle.address.specs.declared.Parts.{Parts}
 use Rattle.joins.specs.Joints.{misjoined, unjoinable}
@@ -10,7 +9,7 @@ use Rattle.tables.specs.declared.manifest.Element.{Element}
 use Rattle.template.specs.Reading.{broken, stands}
 use Rattle.template.specs.declared.Identifier.TheVariants.{Time}
 use Rattle.resolve.specs.Outcome.{media_of, texts_with, texts_by, unaddressed}
-use Rattle.resolve.specs.Values.{Texts, texts_of, part_by, parts_by}
+use Rattle.resolve.specs.Values.{texts_of, part_by, parts_by}
 use Rattle.resolve.specs.declared.prepared.Prepared.{Prepared}
 use Rattle.resolve.proofs.Tests.{or_on, or_here}
 

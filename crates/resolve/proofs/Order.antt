@@ -1,5 +1,5 @@
 -- The values in the order in which they are read.
-use Rattle.std.proofs.Common.{◌≡◌, ℕ, ◌+◌, ◌≤◌, Bool, true, false, ◌||◌, List, ◌∷◌, ◌++◌, take, IfSome, Some, None, Option, unwrap_or, refl, ap, ◌∙◌, subst}
+use Rattle.std.proofs.Common.{◌≡◌, ℕ, ◌+◌, ◌≤◌, Bool, true, false, ◌||◌, List, take, IfSome, Some, None, Option, unwrap_or, ap, ◌∙◌, subst}
 use Rattle.chosen.specs.Choosing.{timeline_in}
 use Rattle.chosen.specs.declared.Chosen.{Chosen}
 use Rattle.periods.specs.Starts.{periods, asked_by as periodsAsked}

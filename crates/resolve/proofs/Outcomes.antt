@@ -1,5 +1,5 @@
 -- What the first refusal that applies makes of the outcome.
-use Rattle.std.proofs.Common.{◌≡◌, ℕ, true, false, List, [], ◌∷◌, ◌++◌, Some, None, Ok, Err, Option, Result, sym, ap, ◌∙◌, subst}
+use Rattle.std.proofs.Common.{◌≡◌, ℕ, true, false, List, [], ◌++◌, Some, None, Ok, Err, Option, Result, sym, ap, ◌∙◌, subst}
 use Rattle.tables.specs.declared.manifest.Attribute.{Attribute}
 use Rattle.tables.specs.declared.manifest.Element.{Element}
 use Rattle.timeline.specs.declared.run.Run.{Run}

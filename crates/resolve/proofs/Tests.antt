@@ -1,5 +1,5 @@
 -- Tests one behind the other.
-use Rattle.std.proofs.Common.{◌≡◌, Bool, true, false, ◌||◌, refl, ap, ◌∙◌}
+use Rattle.std.proofs.Common.{◌≡◌, Bool, true, false, ◌||◌, ap}
 
 -- the first of two holds, or it does not and the second says it
 pub or_here : (a b : Bool) → a ≡ true → (a || b) ≡ true

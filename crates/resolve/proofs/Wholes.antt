@@ -1,5 +1,5 @@
 -- A bottom timeline that keeps the limits is the defined one.
-use Rattle.std.proofs.Common.{◌≡◌, ℕ, ◌+◌, ◌*◌, ◌/◌, ◌%◌, ◌≤◌, min, Bool, true, false, cond, ◌&&◌, ◌||◌, ltb, leb, List, [], sym, refl, ap, ◌∙◌, mul-le-mul_right, add-mul, div-mul-le_self, arith}
+use Rattle.std.proofs.Common.{◌≡◌, ℕ, ◌+◌, ◌*◌, ◌/◌, ◌%◌, ◌≤◌, min, true, false, ◌&&◌, ltb, leb, List, [], mul-le-mul_right, add-mul, div-mul-le_self, arith}
 use Rattle.std.proofs.lemmas.Bool.{cond-true, and_from, or_parts, le-leb, ltb-false}
 use Rattle.expand.specs.Expanding.{too_many}
 use Rattle.timeline.specs.Evenly.{ceiling, fair, evenly, even_list}

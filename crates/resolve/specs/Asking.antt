@@ -1,5 +1,5 @@
 -- The values of a manifest in the order in which they are read, and what they are.
-use Rattle.std.specs.Prelude.{ℕ, ◌+◌, ◌≤◌, Bool, true, false, List, [], ◌∷◌, ◌++◌, take, IfSome, Some, None, codes, Option}
+use Rattle.std.specs.Prelude.{ℕ, ◌+◌, ◌≤◌, true, false, List, [], ◌∷◌, ◌++◌, take, IfSome, Some, None, codes, Option}
 use Rattle.std.specs.Option.{unwrap_or}
 use Rattle.chosen.specs.Choosing.{templated, timeline_in}
 use Rattle.chosen.specs.declared.Chosen.{Chosen}

@@ -27,7 +27,6 @@ use Rattle.resolve.specs.Asking.{asked, numbers}
 use Rattle.resolve.specs.Values.{Texts, Values, parts_by}
 use Rattle.resolve.specs.declared.fault.ResolveFault.{ResolveFault}
 use Rattle.resolve.specs.declared.fault.ResolveFault.TheVariants.{RuleBroken, NotStatic, NotFound, Unreadable, NoLength, BothOrNeither, Runs, NoAddress}
-use Rattle.resolve.specs.declared.numbers.Numbers.{Numbers}
 use Rattle.resolve.specs.declared.prepared.Prepared.{Prepared}
 
 -- a condition with the refusal that it gives

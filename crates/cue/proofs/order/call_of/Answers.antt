@@ -19,14 +19,14 @@ returns-then-eq-2 c = (is c.args.line.now (codes "back") c.as_slice-2.result.now
 pub returns-then-eq-3 : goal.returns-then-eq-3
 returns-then-eq-3 c = (is c.args.line.now (codes "address") c.as_slice-3.result.now c.eq-3.result c.eq-3.ensures c.as_slice-3.ensures).0 c.if-eq-3.true
 
-pub returns-in-default : goal.returns-in-default
-returns-in-default c =
+pub returns-in_default : goal.returns-in_default
+returns-in_default c =
     let line = c.args.line.now in
     let on = is line (codes "on") c.as_slice.result.now c.eq.result c.eq.ensures c.as_slice.ensures in
     let back = is line (codes "back") c.as_slice-2.result.now c.eq-2.result c.eq-2.ensures c.as_slice-2.ensures in
     let address = is line (codes "address") c.as_slice-3.result.now c.eq-3.result c.eq-3.ensures c.as_slice-3.ensures in
     silent line (not_from_Decides c.eq.result on c.if-eq.false) (not_from_Decides c.eq-2.result back c.if-eq-2.false) (not_from_Decides c.eq-3.result address c.if-eq-3.false)
-    (wordless line (strip_prefix_is Decides-eqb line (codes "seek ") None c.in-default.ensures.cases))
+    (wordless line (strip_prefix_is Decides-eqb line (codes "seek ") None c.in_default.ensures.cases))
 
 pub returns-in-Err : goal.returns-in-Err
 returns-in-Err c =

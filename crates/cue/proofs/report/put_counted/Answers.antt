@@ -4,17 +4,17 @@ use Rattle.output.specs.Digits.{padded}
 use Rattle.output.proofs.Several.{then_rest, refused_part, refused_guarded, accepted_guarded}
 use Rattle.cue.proofs.report.put_counted.Goals as goal
 
-pub returns-in-err-put : goal.returns-in-err-put
-returns-in-err-put c =
-    let all = refused_part c.in-err-put.ensures (padded 1 c.args.n) in
+pub returns-in_err-put : goal.returns-in_err-put
+returns-in_err-put c =
+    let all = refused_part c.in_err-put.ensures (padded 1 c.args.n) in
     refused_guarded all (search rules) (search rules) (search rules)
 
-pub returns-in-err-put-number : goal.returns-in-err-put-number
-returns-in-err-put-number c =
-    let all = then_rest c.in-ok-put.ensures c.in-err-put-number.ensures.put in
+pub returns-in_err-put_number : goal.returns-in_err-put_number
+returns-in_err-put_number c =
+    let all = then_rest c.in_ok-put.ensures c.in_err-put_number.ensures.put in
     refused_guarded all (search rules) (search rules) (search rules)
 
 pub returns : goal.returns
 returns c =
-    let all = then_rest c.in-ok-put.ensures c.in-ok-put-number.ensures.put in
+    let all = then_rest c.in_ok-put.ensures c.in_ok-put_number.ensures.put in
     accepted_guarded all (search rules) (search rules)

@@ -1,4 +1,4 @@
-use Rattle.std.proofs.Common.{◌≡◌, ◌-◌, sym, ap}
+use Rattle.std.proofs.Common.{◌-◌, sym, ap}
 use Rattle.std.proofs.lemmas.List.{get_or_past}
 use Rattle.tables.specs.Zero.{no_element}
 use Rattle.full_listing.proofs.printing.angle_at.Goals as goal

@@ -1,4 +1,4 @@
-use Rattle.std.proofs.Common.{◌≡◌, sym, ap, ◌∙◌}
+use Rattle.std.proofs.Common.{sym, ◌∙◌}
 use Rattle.std.proofs.lemmas.Result.{err_from_is_err_and}
 use Rattle.resolve.proofs.Firsts.{unreadable, lengthless, ready, is_prepared}
 use Rattle.resolve.proofs.preparing.prepare.Goals as goal

@@ -1,4 +1,4 @@
-use Rattle.std.proofs.Common.{◌≡◌, ◌≤◌, true, false, unwrap_or, sym, ap, ◌∙◌, arith}
+use Rattle.std.proofs.Common.{true, false, unwrap_or, sym, ap, ◌∙◌, arith}
 use Rattle.std.proofs.lemmas.Result.{err_from_is_err_and}
 use Rattle.values.specs.Given.{present, whole, duration, some_unread}
 use Rattle.values.specs.Whole.{whole_in}

@@ -1,4 +1,4 @@
-use Rattle.std.proofs.Common.{◌≡◌, sym, ap, ◌∙◌}
+use Rattle.std.proofs.Common.{sym, ap, ◌∙◌}
 use Rattle.std.specs.Option.{option_map}
 use Rattle.resolve.proofs.Addresses.{timeless, joinable, not-joinable}
 use Rattle.resolve.proofs.resolving.address.Goals as goal

@@ -1,10 +1,10 @@
-use Rattle.std.proofs.Common.{◌≡◌, false, [], Some, None, unwrap_or, sym, refl, ap, ◌∙◌, subst}
+use Rattle.std.proofs.Common.{◌≡◌, false, Some, None, sym, ap, ◌∙◌, subst}
 use Rattle.std.proofs.lemmas.Result.{err_from_is_err_and}
 use Rattle.bottom.specs.Placing.{unless}
 use Rattle.presentation.specs.Lists.{given_by}
 use Rattle.tables.specs.Rows.{capacity, held}
 use Rattle.template.specs.Reading.{broken}
-use Rattle.resolve.specs.Outcome.{first_of, timing, leaving, runs_by, media_of, texts_by, values_with}
+use Rattle.resolve.specs.Outcome.{first_of, timing, leaving, runs_by, texts_by, values_with}
 use Rattle.resolve.specs.Values.{Texts, Values, values_of, defined_by}
 use Rattle.resolve.specs.declared.fault.ResolveFault.TheVariants.{NoAddress}
 use Rattle.resolve.proofs.Media.{media_whole}
