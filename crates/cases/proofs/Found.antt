@@ -1,5 +1,5 @@
 -- What the manifests of the worked cases come to, computed.
-use Rattle.std.proofs.Common.{◌≡◌, ℕ, List, [], ◌∷◌, Some, None, Ok, Err, codes, refl}
+use Rattle.std.proofs.Common.{◌≡◌, ℕ, List, [], ◌∷◌, Some, None, Err, codes, refl}
 use Rattle.expand.specs.declared.fault.RunFault.TheVariants.{Misplaced}
 use Rattle.player.specs.Opening.{opened}
 use Rattle.player.specs.declared.fault.OpenFault.TheVariants.{Resolve}

@@ -1,5 +1,5 @@
 -- The worked cases as one list.
-use Rattle.std.specs.Prelude.{◌≡◌, ℕ, ◌+◌, false, List, [], ◌∷◌, length, Ok, Err, codes, sum_by, Result, slice_index_or}
+use Rattle.std.specs.Prelude.{◌≡◌, ℕ, ◌+◌, false, List, [], ◌∷◌, length, Ok, Err, codes, sum_by, slice_index_or}
 use Rattle.address.specs.Expansion.{expansion}
 use Rattle.expand.specs.declared.fault.RunFault.TheVariants.{Misplaced}
 use Rattle.head.specs.Heads.{Way, to, refused, sought}
