@@ -64,8 +64,8 @@ module _ (xs : List Segment) (ok : Sound xs) (tick : ℕ) where
         let within = c.there in
         kept_one (λ i. covers tick (get_or xs i blank)) 0 (length xs) k (omega arith) (omega arith) c.covering (λ i h j apart. elsewhere i (omega arith) apart)
 
-    none-covers : (k < length xs → tick < (get_or xs k blank).start) → covering xs tick ≡ []
-    none-covers gap =
+    none_covers : (k < length xs → tick < (get_or xs k blank).start) → covering xs tick ≡ []
+    none_covers gap =
         kept_none (λ i. covers tick (get_or xs i blank)) 0 (length xs) (λ i h j.
         let s = get_or xs i blank in
         elim (cases_order i k) [
@@ -81,10 +81,10 @@ module _ (xs : List Segment) (ok : Sound xs) (tick : ℕ) where
     cases =
         elim (cases_lt k (length xs)) [
           | inl within ↦ elim (cases_lt tick (get_or xs k blank).start) [
-            | inl late ↦ inl (none-covers (λ _. late))
+            | inl late ↦ inl (none_covers (λ _. late))
             | inr early ↦ let c = covered within early in inr (one_covers c, c)
           ]
-          | inr past ↦ inl (none-covers (λ h. absurd (omega arith)))
+          | inr past ↦ inl (none_covers (λ h. absurd (omega arith)))
         ]
 
   -- no segment covers the tick, or the first that has not ended does and no other

@@ -38,13 +38,13 @@ module _ (bytes : List ℕ) (used : ℕ) (text : List ℕ) where
       ]
 
   module _ (bytes' : List ℕ) (used' : ℕ) where
-    puts-adds : (q : Result (Unit {0}) NoRoom) → Puts bytes used text bytes' used' q → (used' ≡ used + length (cond (went_through (raised q)) text [])) × (take used' bytes' ≡ take used bytes ++ cond (went_through (raised q)) text [])
-    puts-adds (Ok u) p =
+    puts_adds : (q : Result (Unit {0}) NoRoom) → Puts bytes used text bytes' used' q → (used' ≡ used + length (cond (went_through (raised q)) text [])) × (take used' bytes' ≡ take used bytes ++ cond (went_through (raised q)) text [])
+    puts_adds (Ok u) p =
         let m = min (length text) (length bytes - used) in
         let fits = p.answer.0 in
         let all : m ≡ length text = omega arith in
         (p.answer.1, ap (λ n. take n bytes') (p.answer.1 ∙ ap (λ n. used + n) (sym all)) ∙ ap (take (used + m)) p.left ∙ whole_paste m all (omega arith))
-    puts-adds (Err e) p =
+    puts_adds (Err e) p =
         let m = min (length text) (length bytes - used) in
         (p.answer.1 ∙ sym (add-zero used), ap (λ n. take n bytes') p.answer.1 ∙ ap (take used) p.left ∙ before_paste m (omega arith) ∙ sym (append-nil (take used bytes)))
 
@@ -66,7 +66,7 @@ obeys_adds xs address timescale place r place' Address o o' obeys at =
       | inl w ↦
           let put = obeys.there w.0 w.1 in
           let here : place' ≡ Some w.0 = at ∙ (stands_within xs place w.0 w.1).0 in
-          rw (here, put.2) (puts-adds o.bytes o.used (address w.0) o'.bytes o'.used put.0 put.1)
+          rw (here, put.2) (puts_adds o.bytes o.used (address w.0) o'.bytes o'.used put.0 put.1)
       | inr w ↦
           let none = obeys.nowhere w in
           rw none.0 (none.2 ∙ sym (add-zero o.used), ap (λ n. take n o'.bytes) none.2 ∙ ap (take o.used) none.1 ∙ sym (append-nil (take o.used o.bytes)))

@@ -43,11 +43,11 @@ module _ (xs : List Segment) (ok : Sound xs) (address : ℕ → List ℕ) (times
     here : get_or (set steps i s) i no_step ≡ s
     here = get_or-set_same steps i s no_step noted
 
-    kept-output : (k : ℕ) → k ≤ i → get_or (o ∷ (r.outputs ++ (o₂ ∷ []))) k o ≡ get_or (o ∷ r.outputs) k o
-    kept-output k h = get_or_append_left (o ∷ r.outputs) (o₂ ∷ []) o k (omega (arith, r.many))
+    kept_output : (k : ℕ) → k ≤ i → get_or (o ∷ (r.outputs ++ (o₂ ∷ []))) k o ≡ get_or (o ∷ r.outputs) k o
+    kept_output k h = get_or_append_left (o ∷ r.outputs) (o₂ ∷ []) o k (omega (arith, r.many))
 
-    new-output : get_or (o ∷ (r.outputs ++ (o₂ ∷ []))) (i + 1) o ≡ o₂
-    new-output = get_or_at (o ∷ r.outputs) o₂ [] o (i + 1) (omega (arith, r.many))
+    new_output : get_or (o ∷ (r.outputs ++ (o₂ ∷ []))) (i + 1) o ≡ o₂
+    new_output = get_or_at (o ∷ r.outputs) o₂ [] o (i + 1) (omega (arith, r.many))
 
     -- the addresses that were written, with what one more call wrote
     module _ (more : Adds address (get_or calls i (Seek 0)) s.answer s.place o₁ o₂) where
@@ -57,37 +57,37 @@ module _ (xs : List Segment) (ok : Sound xs) (address : ℕ → List ℕ) (times
           ∙ ap (addresses address) (events_more calls steps i s called noted)
           ∙ addresses_more address (take i (events calls steps)) record { call = get_or calls i (Seek 0); answer = s.answer; place = s.place }
 
-      mark-more : o₂.used ≡ o.used + length (addresses address (take (i + 1) (events calls (set steps i s))))
-      mark-more =
+      mark_more : o₂.used ≡ o.used + length (addresses address (take (i + 1) (events calls (set steps i s))))
+      mark_more =
           rw (grown, length-append (addresses address (take i (events calls steps))) (written_by address record { call = get_or calls i (Seek 0); answer = s.answer; place = s.place }))
           (omega (arith, more.0, r.mark))
 
-      written-more : take o₂.used o₂.bytes ≡ take o.used o.bytes ++ addresses address (take (i + 1) (events calls (set steps i s)))
-      written-more =
+      written_more : take o₂.used o₂.bytes ≡ take o.used o.bytes ++ addresses address (take (i + 1) (events calls (set steps i s)))
+      written_more =
           more.1
           ∙ ap (λ l. l ++ written_by address record { call = get_or calls i (Seek 0); answer = s.answer; place = s.place }) r.written
           ∙ append_assoc (take o.used o.bytes) (addresses address (take i (events calls steps))) (written_by address record { call = get_or calls i (Seek 0); answer = s.answer; place = s.place })
           ∙ ap (λ l. take o.used o.bytes ++ l) (sym grown)
 
-    pub replays-more : Obeys xs address timescale (stood steps i) (get_or calls i (Seek 0)) s.answer s.place o₁ o₂ → s.place ≡ left_at xs timescale (stood steps i) (get_or calls i (Seek 0)) → Replays xs address timescale calls first (set steps i s) o o₂ (i + 1)
-    replays-more obeys at = record {
+    pub replays_more : Obeys xs address timescale (stood steps i) (get_or calls i (Seek 0)) s.answer s.place o₁ o₂ → s.place ≡ left_at xs timescale (stood steps i) (get_or calls i (Seek 0)) → Replays xs address timescale calls first (set steps i s) o o₂ (i + 1)
+    replays_more obeys at = record {
       places = below_more (λ k. Stands xs timescale (take (k + 1) (events calls (set steps i s))) (get_or (set steps i s) k no_step).place) i
           (λ k h. rw (events_before calls steps i s (k + 1) (omega arith), earlier k h) (r.places k h))
           (rw (add-one, events_more calls steps i s called noted, here) (one_more xs timescale (take i (events calls steps)) (stood steps i) (so_far steps o₁ i r) ok s.answer s.place address (get_or calls i (Seek 0)) o₁ o₂ obeys at));
       outputs = r.outputs ++ (o₂ ∷ []);
       many = length-append r.outputs (o₂ ∷ []) ∙ omega (arith, r.many);
-      end = new-output;
+      end = new_output;
       obeys = below_more (λ k. Obeys xs address timescale (stood (set steps i s) k) (get_or calls k (Seek 0)) (get_or (set steps i s) k no_step).answer (get_or (set steps i s) k no_step).place (get_or (o ∷ (r.outputs ++ (o₂ ∷ []))) k o) (get_or (o ∷ (r.outputs ++ (o₂ ∷ []))) (k + 1) o)) i
-          (λ k h. rw (stood_before steps i s k (omega arith), earlier k h, kept-output k (omega arith), kept-output (k + 1) (omega arith)) (r.obeys k h))
-          (rw (stood_before steps i s i (omega arith), here, kept-output i (omega arith), r.end, new-output) obeys);
-      mark = mark-more (obeys_adds xs address timescale (stood steps i) s.answer s.place (get_or calls i (Seek 0)) o₁ o₂ obeys at);
-      written = written-more (obeys_adds xs address timescale (stood steps i) s.answer s.place (get_or calls i (Seek 0)) o₁ o₂ obeys at);
+          (λ k h. rw (stood_before steps i s k (omega arith), earlier k h, kept_output k (omega arith), kept_output (k + 1) (omega arith)) (r.obeys k h))
+          (rw (stood_before steps i s i (omega arith), here, kept_output i (omega arith), r.end, new_output) obeys);
+      mark = mark_more (obeys_adds xs address timescale (stood steps i) s.answer s.place (get_or calls i (Seek 0)) o₁ o₂ obeys at);
+      written = written_more (obeys_adds xs address timescale (stood steps i) s.answer s.place (get_or calls i (Seek 0)) o₁ o₂ obeys at);
       behind = drop-set-lt (i + 1) steps i s (omega arith) ∙ drop_more steps first i r.behind;
     }
 
     -- the same, of a head that stands there
-    pub replays-turn : (ts : ℕ) (place place' : Option ℕ) → ts ≡ timescale → place ≡ stood steps i → s.place ≡ place' → Obeys xs address ts place (get_or calls i (Seek 0)) s.answer place' o₁ o₂ → place' ≡ left_at xs ts place (get_or calls i (Seek 0)) → Replays xs address timescale calls first (set steps i s) o o₂ (i + 1)
-    replays-turn ts place place' et ep es obeys at = replays-more (rw (← et, ← ep, es) obeys) (rw (← et, ← ep, es) at)
+    pub replays_turn : (ts : ℕ) (place place' : Option ℕ) → ts ≡ timescale → place ≡ stood steps i → s.place ≡ place' → Obeys xs address ts place (get_or calls i (Seek 0)) s.answer place' o₁ o₂ → place' ≡ left_at xs ts place (get_or calls i (Seek 0)) → Replays xs address timescale calls first (set steps i s) o o₂ (i + 1)
+    replays_turn ts place place' et ep es obeys at = replays_more (rw (← et, ← ep, es) obeys) (rw (← et, ← ep, es) at)
 
-    pub stood-next : stood (set steps i s) (i + 1) ≡ s.place
-    stood-next = rw add-one (ap (λ x. x.place) here)
+    pub stood_next : stood (set steps i s) (i + 1) ≡ s.place
+    stood_next = rw add-one (ap (λ x. x.place) here)

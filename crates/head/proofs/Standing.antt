@@ -126,23 +126,23 @@ module _ (xs : List Segment) (timescale : ℕ) (es : List Event) (place : Option
 
   -- one more call
   module _ (ok : Sound xs) (r : Result (Unit {0}) HeadFault) (place' : Option ℕ) where
-    seek-refused : (ms : ℕ) (e : HeadFault) → r ≡ Err e → place' ≡ place → Stands xs timescale (es ++ (record { call = Seek ms; answer = r; place = place' } ∷ [])) place'
-    seek-refused ms e re pe = rw (re, pe) (stays record { call = Seek ms; answer = Err e; place = place } refl refl refl)
+    seek_refused : (ms : ℕ) (e : HeadFault) → r ≡ Err e → place' ≡ place → Stands xs timescale (es ++ (record { call = Seek ms; answer = r; place = place' } ∷ [])) place'
+    seek_refused ms e re pe = rw (re, pe) (stays record { call = Seek ms; answer = Err e; place = place } refl refl refl)
 
-    seek-more : (ms : ℕ) → Seeks xs timescale ms place' r → place' ≡ arrived place (sought xs timescale ms) → Stands xs timescale (es ++ (record { call = Seek ms; answer = r; place = place' } ∷ [])) place'
-    seek-more ms s at =
+    seek_more : (ms : ℕ) → Seeks xs timescale ms place' r → place' ≡ arrived place (sought xs timescale ms) → Stands xs timescale (es ++ (record { call = Seek ms; answer = r; place = place' } ∷ [])) place'
+    seek_more ms s at =
         elim (cases_Bool (seekable timescale ms)) [
           | inl may ↦ elim (cover_cases xs ok (tick_of timescale ms)) [
-            | inl empty ↦ seek-refused ms NoneCovers (s.none may (ap length empty)) (at ∙ ap (arrived place) (in_range xs ok timescale ms may empty))
+            | inl empty ↦ seek_refused ms NoneCovers (s.none may (ap length empty)) (at ∙ ap (arrived place) (in_range xs ok timescale ms may empty))
             | inr sole ↦
                 let one = s.one may (ap length sole.0) in
                 rw (one.0, one.1.1) (goes_to ms one.1.0 one.1.2)
           ]
-          | inr not' ↦ seek-refused ms OutOfRange (s.out not') (at ∙ ap (arrived place) (out_of_range xs ok timescale ms not'))
+          | inr not' ↦ seek_refused ms OutOfRange (s.out not') (at ∙ ap (arrived place) (out_of_range xs ok timescale ms not'))
         ]
 
-    on-more : r ≡ reply (onward xs place) → place' ≡ arrived place (onward xs place) → Stands xs timescale (es ++ (record { call = On; answer = r; place = place' } ∷ [])) place'
-    on-more re pe =
+    on_more : r ≡ reply (onward xs place) → place' ≡ arrived place (onward xs place) → Stands xs timescale (es ++ (record { call = On; answer = r; place = place' } ∷ [])) place'
+    on_more re pe =
         elim (way_cases (onward xs place)) [
           | inl w ↦
               let a : r ≡ Ok tt = re ∙ ap reply w.1 in
@@ -168,7 +168,7 @@ module _ (xs : List Segment) (timescale : ℕ) (es : List Event) (place : Option
         ]
 
     pub one_more : (address : ℕ → List ℕ) (call : Call) (o o' : Output) → Obeys xs address timescale place call r place' o o' → place' ≡ left_at xs timescale place call → Stands xs timescale (es ++ (record { call = call; answer = r; place = place' } ∷ [])) place'
-    one_more address (Seek ms) o o' obeys at = seek-more ms obeys.0 at
-    one_more address On o o' obeys at = on-more obeys.0 at
+    one_more address (Seek ms) o o' obeys at = seek_more ms obeys.0 at
+    one_more address On o o' obeys at = on_more obeys.0 at
     one_more address Back o o' obeys at = back_more obeys.0 at
     one_more address Address o o' obeys at = rw at (stays record { call = Address; answer = r; place = place } refl refl refl)

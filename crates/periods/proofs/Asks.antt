@@ -24,15 +24,15 @@ module _ (m : List ℕ) (es : List Element) (xs : List Attribute) where
         rw (s, rows_here p (length es) k lt t) (unread_append (asked_of m es xs k) (asked_by m es xs (take e (rows_from p (length es) (k + 1)))))
 
     -- the row k is that of a Period, which cannot be read, or can
-    pub unread-here : k < length es → true ≡ is_child_at m es 0 (codes "Period") k → some_unread (asked_of m es xs k) ≡ true → (d e : ℕ) → d ≡ suc e → unread_in d k ≡ true
-    unread-here lt t bad d e s = first lt t d e s ∙ ap (λ b. b || unread_in e (k + 1)) bad
+    pub unread_here : k < length es → true ≡ is_child_at m es 0 (codes "Period") k → some_unread (asked_of m es xs k) ≡ true → (d e : ℕ) → d ≡ suc e → unread_in d k ≡ true
+    unread_here lt t bad d e s = first lt t d e s ∙ ap (λ b. b || unread_in e (k + 1)) bad
 
     pub read_here : k < length es → true ≡ is_child_at m es 0 (codes "Period") k → some_unread (asked_of m es xs k) ≡ false → (d e : ℕ) → d ≡ suc e → unread_in d k ≡ unread_in e (k + 1)
     read_here lt t good d e s = first lt t d e s ∙ ap (λ b. b || unread_in e (k + 1)) good
 
     -- it is another row
-    pub not-here : k < length es → false ≡ is_child_at m es 0 (codes "Period") k → (d e : ℕ) → d ≡ e → unread_in d k ≡ unread_in e (k + 1)
-    not-here lt f d e s = rw (s, rows_more (is_child_at m es 0 (codes "Period")) (length es) k lt f) refl
+    pub not_here : k < length es → false ≡ is_child_at m es 0 (codes "Period") k → (d e : ℕ) → d ≡ e → unread_in d k ≡ unread_in e (k + 1)
+    not_here lt f d e s = rw (s, rows_more (is_child_at m es 0 (codes "Period")) (length es) k lt f) refl
 
     -- no row is left
     pub none_here : length es ≤ k → (d : ℕ) → unread_in d k ≡ false

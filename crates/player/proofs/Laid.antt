@@ -30,8 +30,8 @@ module _ (p : Plan) (rows runs : List Run) (are : rows ≡ runs) (whole : bottom
 
   -- a replay on the timeline that is laid out
   module _ (xs : List Segment) (a : ℕ → List ℕ) (list : xs ≡ timeline_of p rows) (address : (place : ℕ) → place < length (timeline_of p rows) → a place ≡ addresses_of p rows place) where
-    pub replays-laid : (timescale : ℕ) (calls : List Call) (steps steps' : List Step) (o o' : Output) (n : ℕ) → Replays xs a timescale calls steps steps' o o' n → Replays (timeline_by (values_of p) runs) (address_by (values_of p) runs) timescale calls steps steps' o o' n
-    replays-laid timescale calls steps steps' o o' n r =
+    pub replays_laid : (timescale : ℕ) (calls : List Call) (steps steps' : List Step) (o o' : Output) (n : ℕ) → Replays xs a timescale calls steps steps' o o' n → Replays (timeline_by (values_of p) runs) (address_by (values_of p) runs) timescale calls steps steps' o o' n
+    replays_laid timescale calls steps steps' o o' n r =
         let is = list ∙ timeline_is in
         same_replays (timeline_by (values_of p) runs) a (address_by (values_of p) runs)
         (λ place h. address place (subst (λ ys. place < length ys) (sym timeline_is) h) ∙ address_is place)

@@ -31,11 +31,11 @@ module _ (m : List ℕ) (E A at : ℕ) where
   comment_closed k d h t = from_to m E A (comment k d) (outside d) at h (cond-true _ _ _ t)
 
   module _ (k : ℕ) (d : Document) (h : at < length m) (t : (leb 2 k && eqb (get_or m at 0) 62) ≡ false) where
-    pub comment-other : visible (get_or m at 0) ≡ false → from m E A (comment k d) at ≡ refused Grammar at
-    comment-other v = to_wrong m E A (comment k d) Grammar at at h (cond-false _ _ _ t ∙ cond-false _ _ _ v)
+    pub comment_other : visible (get_or m at 0) ≡ false → from m E A (comment k d) at ≡ refused Grammar at
+    comment_other v = to_wrong m E A (comment k d) Grammar at at h (cond-false _ _ _ t ∙ cond-false _ _ _ v)
 
-    pub comment-next : visible (get_or m at 0) ≡ true → from m E A (comment k d) at ≡ from m E A (comment (dashes k (get_or m at 0)) d) (at + 1)
-    comment-next v = from_to m E A (comment k d) (comment (dashes k (get_or m at 0)) d) at h (cond-false _ _ _ t ∙ cond-true _ _ _ v)
+    pub comment_next : visible (get_or m at 0) ≡ true → from m E A (comment k d) at ≡ from m E A (comment (dashes k (get_or m at 0)) d) (at + 1)
+    comment_next v = from_to m E A (comment k d) (comment (dashes k (get_or m at 0)) d) at h (cond-false _ _ _ t ∙ cond-true _ _ _ v)
 
   pub declaration_ends : (q : Bool) → length m ≤ at → from m E A (declaration q) at ≡ refused Grammar at
   declaration_ends q h = from_end m E A (declaration q) at h
@@ -44,8 +44,8 @@ module _ (m : List ℕ) (E A at : ℕ) where
   declaration_closed q h t = from_to m E A (declaration q) (outside nothing) at h (cond-true _ _ _ t)
 
   module _ (q : Bool) (h : at < length m) (t : (q && eqb (get_or m at 0) 62) ≡ false) where
-    pub declaration-other : ascii (get_or m at 0) ≡ false → from m E A (declaration q) at ≡ refused Grammar at
-    declaration-other v = to_wrong m E A (declaration q) Grammar at at h (cond-false _ _ _ t ∙ cond-false _ _ _ v)
+    pub declaration_other : ascii (get_or m at 0) ≡ false → from m E A (declaration q) at ≡ refused Grammar at
+    declaration_other v = to_wrong m E A (declaration q) Grammar at at h (cond-false _ _ _ t ∙ cond-false _ _ _ v)
 
-    pub declaration-next : ascii (get_or m at 0) ≡ true → from m E A (declaration q) at ≡ from m E A (declaration (eqb (get_or m at 0) 63)) (at + 1)
-    declaration-next v = from_to m E A (declaration q) (declaration (eqb (get_or m at 0) 63)) at h (cond-false _ _ _ t ∙ cond-true _ _ _ v)
+    pub declaration_next : ascii (get_or m at 0) ≡ true → from m E A (declaration q) at ≡ from m E A (declaration (eqb (get_or m at 0) 63)) (at + 1)
+    declaration_next v = from_to m E A (declaration q) (declaration (eqb (get_or m at 0) 63)) at h (cond-false _ _ _ t ∙ cond-true _ _ _ v)

@@ -13,7 +13,7 @@ use Rattle.reader.specs.Bytes.{goes}
 use Rattle.reader.specs.Machine.{Document, State, naming, attribute, sign, tag, closing, closed, wrong, refused, twice, step, ended, from}
 use Rattle.reader.specs.declared.fault.ReadRefusal.{ReadRefusal}
 use Rattle.reader.specs.declared.fault.ReadRefusal.TheVariants.{TooDeep, ClosingName, ElementsFull, AttributesFull, AttributeTwice}
-use Rattle.reader.proofs.Runs.{from_end, to_wrong, from_same, from-stays}
+use Rattle.reader.proofs.Runs.{from_end, to_wrong, from_same, from_stays}
 
 -- one attribute more that has the name or not
 module _ (m : List ℕ) (e : ℕ) (n : List ℕ) (rows : List Attribute) (i : ℕ) (h : i < length rows) where
@@ -38,39 +38,39 @@ module _ (m : List ℕ) (E A : ℕ) where
   module _ (d : Document) (p end : ℕ) (b : end ≡ p + prefix_len goes (drop p m)) (stops : end < length m → goes (get_or m end 0) ≡ false) where
     -- the name of an attribute
     module _ (e : Span) where
-      to-attribute : from m E A (attribute d e p) p ≡ from m E A (attribute d e p) end
-      to-attribute = from-stays m E A (attribute d e p) goes (λ i x y. cond-true _ _ _ y) p end b
+      to_attribute : from m E A (attribute d e p) p ≡ from m E A (attribute d e p) end
+      to_attribute = from_stays m E A (attribute d e p) goes (λ i x y. cond-true _ _ _ y) p end b
 
-      pub attribute-full : leb A (length d.attributes) ≡ true → from m E A (attribute d e p) p ≡ refused AttributesFull p
-      attribute-full f = to-attribute ∙ meets (attribute d e p) AttributesFull p end (λ lt. cond-false _ _ _ (stops lt) ∙ cond-true _ _ _ f) (cond-true _ _ _ f)
+      pub attribute_full : leb A (length d.attributes) ≡ true → from m E A (attribute d e p) p ≡ refused AttributesFull p
+      attribute_full f = to_attribute ∙ meets (attribute d e p) AttributesFull p end (λ lt. cond-false _ _ _ (stops lt) ∙ cond-true _ _ _ f) (cond-true _ _ _ f)
 
       module _ (f : leb A (length d.attributes) ≡ false) where
         pub attribute-twice : twice m (length d.elements) (take (end - p) (drop p m)) d.attributes ≡ true → from m E A (attribute d e p) p ≡ refused AttributeTwice p
-        attribute-twice t = to-attribute ∙ meets (attribute d e p) AttributeTwice p end (λ lt. cond-false _ _ _ (stops lt) ∙ cond-false _ _ _ f ∙ cond-true _ _ _ t) (cond-false _ _ _ f ∙ cond-true _ _ _ t)
+        attribute-twice t = to_attribute ∙ meets (attribute d e p) AttributeTwice p end (λ lt. cond-false _ _ _ (stops lt) ∙ cond-false _ _ _ f ∙ cond-true _ _ _ t) (cond-false _ _ _ f ∙ cond-true _ _ _ t)
 
         pub attribute-on : twice m (length d.elements) (take (end - p) (drop p m)) d.attributes ≡ false → from m E A (attribute d e p) p ≡ from m E A (sign d e (span p (end - p))) end
-        attribute-on t = to-attribute ∙ from_same m E A (attribute d e p) (sign d e (span p (end - p))) end (λ lt. cond-false _ _ _ (stops lt) ∙ cond-false _ _ _ f ∙ cond-false _ _ _ t) (cond-false _ _ _ f ∙ cond-false _ _ _ t)
+        attribute-on t = to_attribute ∙ from_same m E A (attribute d e p) (sign d e (span p (end - p))) end (λ lt. cond-false _ _ _ (stops lt) ∙ cond-false _ _ _ f ∙ cond-false _ _ _ t) (cond-false _ _ _ f ∙ cond-false _ _ _ t)
 
     -- the name of a start tag
-    to-naming : from m E A (naming d p) p ≡ from m E A (naming d p) end
-    to-naming = from-stays m E A (naming d p) goes (λ i x y. cond-true _ _ _ y) p end b
+    to_naming : from m E A (naming d p) p ≡ from m E A (naming d p) end
+    to_naming = from_stays m E A (naming d p) goes (λ i x y. cond-true _ _ _ y) p end b
 
-    pub naming-deep : leb 16 d.depth ≡ true → from m E A (naming d p) p ≡ refused TooDeep (p - 1)
-    naming-deep f = to-naming ∙ meets (naming d p) TooDeep (p - 1) end (λ lt. cond-false _ _ _ (stops lt) ∙ cond-true _ _ _ f) (cond-true _ _ _ f)
+    pub naming_deep : leb 16 d.depth ≡ true → from m E A (naming d p) p ≡ refused TooDeep (p - 1)
+    naming_deep f = to_naming ∙ meets (naming d p) TooDeep (p - 1) end (λ lt. cond-false _ _ _ (stops lt) ∙ cond-true _ _ _ f) (cond-true _ _ _ f)
 
     module _ (f : leb 16 d.depth ≡ false) where
-      pub naming-full : leb E (length d.elements) ≡ true → from m E A (naming d p) p ≡ refused ElementsFull (p - 1)
-      naming-full t = to-naming ∙ meets (naming d p) ElementsFull (p - 1) end (λ lt. cond-false _ _ _ (stops lt) ∙ cond-false _ _ _ f ∙ cond-true _ _ _ t) (cond-false _ _ _ f ∙ cond-true _ _ _ t)
+      pub naming_full : leb E (length d.elements) ≡ true → from m E A (naming d p) p ≡ refused ElementsFull (p - 1)
+      naming_full t = to_naming ∙ meets (naming d p) ElementsFull (p - 1) end (λ lt. cond-false _ _ _ (stops lt) ∙ cond-false _ _ _ f ∙ cond-true _ _ _ t) (cond-false _ _ _ f ∙ cond-true _ _ _ t)
 
-      pub naming-on : leb E (length d.elements) ≡ false → from m E A (naming d p) p ≡ from m E A (tag d (span p (end - p)) false) end
-      naming-on t = to-naming ∙ from_same m E A (naming d p) (tag d (span p (end - p)) false) end (λ lt. cond-false _ _ _ (stops lt) ∙ cond-false _ _ _ f ∙ cond-false _ _ _ t) (cond-false _ _ _ f ∙ cond-false _ _ _ t)
+      pub naming_on : leb E (length d.elements) ≡ false → from m E A (naming d p) p ≡ from m E A (tag d (span p (end - p)) false) end
+      naming_on t = to_naming ∙ from_same m E A (naming d p) (tag d (span p (end - p)) false) end (λ lt. cond-false _ _ _ (stops lt) ∙ cond-false _ _ _ f ∙ cond-false _ _ _ t) (cond-false _ _ _ f ∙ cond-false _ _ _ t)
 
     -- the name of a closing tag
-    to-closing : from m E A (closing d p) p ≡ from m E A (closing d p) end
-    to-closing = from-stays m E A (closing d p) goes (λ i x y. cond-true _ _ _ y) p end b
+    to_closing : from m E A (closing d p) p ≡ from m E A (closing d p) end
+    to_closing = from_stays m E A (closing d p) goes (λ i x y. cond-true _ _ _ y) p end b
 
-    pub closing-other : bytes_eq (part m (get_or d.elements d.inner no_element).name) (take (end - p) (drop p m)) ≡ false → from m E A (closing d p) p ≡ refused ClosingName p
-    closing-other t = to-closing ∙ meets (closing d p) ClosingName p end (λ lt. cond-false _ _ _ (stops lt) ∙ cond-false _ _ _ t) (cond-false _ _ _ t)
+    pub closing_other : bytes_eq (part m (get_or d.elements d.inner no_element).name) (take (end - p) (drop p m)) ≡ false → from m E A (closing d p) p ≡ refused ClosingName p
+    closing_other t = to_closing ∙ meets (closing d p) ClosingName p end (λ lt. cond-false _ _ _ (stops lt) ∙ cond-false _ _ _ t) (cond-false _ _ _ t)
 
-    pub closing-on : bytes_eq (part m (get_or d.elements d.inner no_element).name) (take (end - p) (drop p m)) ≡ true → from m E A (closing d p) p ≡ from m E A (closed d) end
-    closing-on t = to-closing ∙ from_same m E A (closing d p) (closed d) end (λ lt. cond-false _ _ _ (stops lt) ∙ cond-true _ _ _ t) (cond-true _ _ _ t)
+    pub closing_on : bytes_eq (part m (get_or d.elements d.inner no_element).name) (take (end - p) (drop p m)) ≡ true → from m E A (closing d p) p ≡ from m E A (closed d) end
+    closing_on t = to_closing ∙ from_same m E A (closing d p) (closed d) end (λ lt. cond-false _ _ _ (stops lt) ∙ cond-true _ _ _ t) (cond-true _ _ _ t)

@@ -45,10 +45,10 @@ module _ (m : List ℕ) (E A : ℕ) where
 
   -- bytes of a class that leave the state as it is
   module _ (s : State) (p : ℕ → Bool) (stays : (at b : ℕ) → p b ≡ true → step m E A s at b ≡ s) where
-    run-stays : (xs : List ℕ) (at : ℕ) → run m E A s at xs ≡ run m E A s (at + prefix_len p xs) (drop (prefix_len p xs) xs)
+    run_stays : (xs : List ℕ) (at : ℕ) → run m E A s at xs ≡ run m E A s (at + prefix_len p xs) (drop (prefix_len p xs) xs)
     unfolding run
-    run-stays [] at = ap (λ k. ended m E A s k) (sym (add-zero at))
-    run-stays (x ∷ xs) at = go (p x) refl (run-stays xs (at + 1))
+    run_stays [] at = ap (λ k. ended m E A s k) (sym (add-zero at))
+    run_stays (x ∷ xs) at = go (p x) refl (run_stays xs (at + 1))
       where
         go : (t : Bool) → p x ≡ t → run m E A s (at + 1) xs ≡ run m E A s (at + 1 + prefix_len p xs) (drop (prefix_len p xs) xs) → run m E A s at (x ∷ xs) ≡ run m E A s (at + cond t (1 + prefix_len p xs) 0) (drop (cond t (1 + prefix_len p xs) 0) (x ∷ xs))
         go true e ih =
@@ -58,9 +58,9 @@ module _ (m : List ℕ) (E A : ℕ) where
             ∙ ap (λ k. run m E A s (at + (1 + prefix_len p xs)) (drop k (x ∷ xs))) (sym (one-add (prefix_len p xs)))
         go false e ih = ap (λ k. run m E A s k (x ∷ xs)) (sym (add-zero at))
 
-    pub from-stays : (at end : ℕ) → end ≡ at + prefix_len p (drop at m) → from m E A s at ≡ from m E A s end
-    from-stays at end e =
-        run-stays (drop at m) at
+    pub from_stays : (at end : ℕ) → end ≡ at + prefix_len p (drop at m) → from m E A s at ≡ from m E A s end
+    from_stays at end e =
+        run_stays (drop at m) at
         ∙ ap (λ l. run m E A s (at + prefix_len p (drop at m)) l) (drops (prefix_len p (drop at m)) at m)
         ∙ ap (λ k. run m E A s k (drop k m)) (sym e)
 

@@ -8,7 +8,7 @@ use Rattle.tables.specs.declared.span.Span.{Span}
 use Rattle.reader.specs.Bytes.{blank, begins, goes, from_to as among, quotes, textual, plain}
 use Rattle.reader.specs.Machine.{Document, word, attribute, sign, quote, value, tag, text, outside, angle, slash, wrong, refused, valued, opened, emptied, step, from}
 use Rattle.reader.specs.declared.fault.ReadRefusal.TheVariants.{Grammar, Ampersand}
-use Rattle.reader.proofs.Runs.{from_end, from_to, to_wrong, from_same, from-stays}
+use Rattle.reader.proofs.Runs.{from_end, from_to, to_wrong, from_same, from_stays}
 
 -- a run that is not empty begins with a byte of the class
 pub leading-some : (p : ℕ → Bool) (m : List ℕ) (at : ℕ) → 0 < prefix_len p (drop at m) → (at < length m) × (p (get_or m at 0) ≡ true)
@@ -30,22 +30,22 @@ module _ (m : List ℕ) (E A : ℕ) where
   -- blanks behind an attribute's name, and then a '='
   pub to_sign : (d : Document) (e a : Span) (at end : ℕ) → end ≡ at + prefix_len blank (drop at m) → (end < length m → blank (get_or m end 0) ≡ false) → from m E A (sign d e a) at ≡ from m E A (word 61 [] (quote d e a)) end
   to_sign d e a at end b stops =
-      from-stays m E A (sign d e a) blank (λ i x y. cond-true _ _ _ y) at end b
+      from_stays m E A (sign d e a) blank (λ i x y. cond-true _ _ _ y) at end b
       ∙ from_same m E A (sign d e a) (word 61 [] (quote d e a)) end (λ lt. cond-false _ _ _ (stops lt)) refl
 
   -- blanks behind the '='
   module _ (d : Document) (e a : Span) (at end : ℕ) (b : end ≡ at + prefix_len blank (drop at m)) (stops : end < length m → blank (get_or m end 0) ≡ false) where
-    to-quote : from m E A (quote d e a) at ≡ from m E A (quote d e a) end
-    to-quote = from-stays m E A (quote d e a) blank (λ i x y. cond-true _ _ _ y) at end b
+    to_quote : from m E A (quote d e a) at ≡ from m E A (quote d e a) end
+    to_quote = from_stays m E A (quote d e a) blank (λ i x y. cond-true _ _ _ y) at end b
 
-    pub quote-ends : length m ≤ end → from m E A (quote d e a) at ≡ refused Grammar end
-    quote-ends h = to-quote ∙ from_end m E A (quote d e a) end h
+    pub quote_ends : length m ≤ end → from m E A (quote d e a) at ≡ refused Grammar end
+    quote_ends h = to_quote ∙ from_end m E A (quote d e a) end h
 
-    pub quote-other : end < length m → quotes (get_or m end 0) ≡ false → from m E A (quote d e a) at ≡ refused Grammar end
-    quote-other h q = to-quote ∙ to_wrong m E A (quote d e a) Grammar end end h (cond-false _ _ _ (stops h) ∙ cond-false _ _ _ q)
+    pub quote_other : end < length m → quotes (get_or m end 0) ≡ false → from m E A (quote d e a) at ≡ refused Grammar end
+    quote_other h q = to_quote ∙ to_wrong m E A (quote d e a) Grammar end end h (cond-false _ _ _ (stops h) ∙ cond-false _ _ _ q)
 
-    pub quote-next : end < length m → quotes (get_or m end 0) ≡ true → from m E A (quote d e a) at ≡ from m E A (value d e a (end + 1) (get_or m end 0)) (end + 1)
-    quote-next h q = to-quote ∙ from_to m E A (quote d e a) (value d e a (end + 1) (get_or m end 0)) end h (cond-false _ _ _ (stops h) ∙ cond-true _ _ _ q)
+    pub quote_next : end < length m → quotes (get_or m end 0) ≡ true → from m E A (quote d e a) at ≡ from m E A (value d e a (end + 1) (get_or m end 0)) (end + 1)
+    quote_next h q = to_quote ∙ from_to m E A (quote d e a) (value d e a (end + 1) (get_or m end 0)) end h (cond-false _ _ _ (stops h) ∙ cond-true _ _ _ q)
 
   -- blanks inside a start tag
   pub to_tag : (d : Document) (e : Span) (at end : ℕ) → end ≡ at + prefix_len blank (drop at m) → from m E A (tag d e false) at ≡ from m E A (tag d e (ltb 0 (end - at))) end
@@ -57,7 +57,7 @@ module _ (m : List ℕ) (E A : ℕ) where
           let is : blank (get_or m at 0) ≡ true = (leading-some blank m at (omega arith)).1 in
           from_to m E A (tag d e false) (tag d e true) at lt (cond-true _ _ _ is)
           ∙ sym (from_to m E A (tag d e true) (tag d e true) at lt (cond-true _ _ _ is))
-          ∙ from-stays m E A (tag d e true) blank (λ i x y. cond-true _ _ _ y) at end b
+          ∙ from_stays m E A (tag d e true) blank (λ i x y. cond-true _ _ _ y) at end b
           ∙ ap (λ t. from m E A (tag d e t) end) (sym (lt-ltb 0 (end - at) (omega arith)))
 
       some : end ≤ at → from m E A (tag d e false) at ≡ from m E A (tag d e (ltb 0 (end - at))) end
@@ -68,8 +68,8 @@ module _ (m : List ℕ) (E A : ℕ) where
 
   -- a byte of a start tag that is no blank
   module _ (d : Document) (e : Span) (gap : Bool) (at : ℕ) where
-    pub tag-ends : length m ≤ at → from m E A (tag d e gap) at ≡ refused Grammar at
-    tag-ends h = from_end m E A (tag d e gap) at h
+    pub tag_ends : length m ≤ at → from m E A (tag d e gap) at ≡ refused Grammar at
+    tag_ends h = from_end m E A (tag d e gap) at h
 
     module _ (h : at < length m) (nb : blank (get_or m at 0) ≡ false) where
       pub tag_open : get_or m at 0 ≡ 62 → from m E A (tag d e gap) at ≡ from m E A (text d e (at + 1)) (at + 1)
@@ -95,38 +95,38 @@ module _ (m : List ℕ) (E A : ℕ) where
 
   -- the bytes of a value
   module _ (d : Document) (e a : Span) (q at end : ℕ) (b : end ≡ at + prefix_len (plain q) (drop at m)) (stops : end < length m → plain q (get_or m end 0) ≡ false) where
-    to-value : from m E A (value d e a at q) at ≡ from m E A (value d e a at q) end
-    to-value = from-stays m E A (value d e a at q) (plain q) (λ i x y. cond-true _ _ _ y) at end b
+    to_value : from m E A (value d e a at q) at ≡ from m E A (value d e a at q) end
+    to_value = from_stays m E A (value d e a at q) (plain q) (λ i x y. cond-true _ _ _ y) at end b
 
-    pub value-ends : length m ≤ end → from m E A (value d e a at q) at ≡ refused Grammar end
-    value-ends h = to-value ∙ from_end m E A (value d e a at q) end h
+    pub value_ends : length m ≤ end → from m E A (value d e a at q) at ≡ refused Grammar end
+    value_ends h = to_value ∙ from_end m E A (value d e a at q) end h
 
-    pub value-done : end < length m → get_or m end 0 ≡ q → from m E A (value d e a at q) at ≡ from m E A (tag (valued d a (span at (end - at))) e false) (end + 1)
-    value-done h y = to-value ∙ from_to m E A (value d e a at q) (tag (valued d a (span at (end - at))) e false) end h (cond-false _ _ _ (stops h) ∙ cond-true _ _ _ (eq-eqb _ q y))
+    pub value_done : end < length m → get_or m end 0 ≡ q → from m E A (value d e a at q) at ≡ from m E A (tag (valued d a (span at (end - at))) e false) (end + 1)
+    value_done h y = to_value ∙ from_to m E A (value d e a at q) (tag (valued d a (span at (end - at))) e false) end h (cond-false _ _ _ (stops h) ∙ cond-true _ _ _ (eq-eqb _ q y))
 
-    pub value-amp : end < length m → (get_or m end 0 ≡ q → ⊥) → get_or m end 0 ≡ 38 → from m E A (value d e a at q) at ≡ refused Ampersand end
-    value-amp h y w = to-value ∙ to_wrong m E A (value d e a at q) Ampersand end end h (cond-false _ _ _ (stops h) ∙ cond-false _ _ _ (ne_eqb _ q y) ∙ cond-true _ _ _ (eq-eqb _ 38 w))
+    pub value_amp : end < length m → (get_or m end 0 ≡ q → ⊥) → get_or m end 0 ≡ 38 → from m E A (value d e a at q) at ≡ refused Ampersand end
+    value_amp h y w = to_value ∙ to_wrong m E A (value d e a at q) Ampersand end end h (cond-false _ _ _ (stops h) ∙ cond-false _ _ _ (ne_eqb _ q y) ∙ cond-true _ _ _ (eq-eqb _ 38 w))
 
-    pub value-other : end < length m → (get_or m end 0 ≡ q → ⊥) → (get_or m end 0 ≡ 38 → ⊥) → from m E A (value d e a at q) at ≡ refused Grammar end
-    value-other h y w = to-value ∙ to_wrong m E A (value d e a at q) Grammar end end h (cond-false _ _ _ (stops h) ∙ cond-false _ _ _ (ne_eqb _ q y) ∙ cond-false _ _ _ (ne_eqb _ 38 w))
+    pub value_other : end < length m → (get_or m end 0 ≡ q → ⊥) → (get_or m end 0 ≡ 38 → ⊥) → from m E A (value d e a at q) at ≡ refused Grammar end
+    value_other h y w = to_value ∙ to_wrong m E A (value d e a at q) Grammar end end h (cond-false _ _ _ (stops h) ∙ cond-false _ _ _ (ne_eqb _ q y) ∙ cond-false _ _ _ (ne_eqb _ 38 w))
 
   -- the bytes of a text behind a start tag
   module _ (d : Document) (e : Span) (at end : ℕ) (b : end ≡ at + prefix_len textual (drop at m)) (stops : end < length m → textual (get_or m end 0) ≡ false) where
-    to-text : from m E A (text d e at) at ≡ from m E A (text d e at) end
-    to-text = from-stays m E A (text d e at) textual (λ i x y. cond-true _ _ _ y) at end b
+    to_text : from m E A (text d e at) at ≡ from m E A (text d e at) end
+    to_text = from_stays m E A (text d e at) textual (λ i x y. cond-true _ _ _ y) at end b
 
-    pub text-ends : length m ≤ end → from m E A (text d e at) at ≡ refused Grammar end
-    text-ends h = to-text ∙ from_end m E A (text d e at) end h
+    pub text_ends : length m ≤ end → from m E A (text d e at) at ≡ refused Grammar end
+    text_ends h = to_text ∙ from_end m E A (text d e at) end h
 
-    pub text-done : end < length m → get_or m end 0 ≡ 60 → from m E A (text d e at) at ≡ from m E A (outside (opened d e (span at (end - at)))) end
-    text-done h y =
+    pub text_done : end < length m → get_or m end 0 ≡ 60 → from m E A (text d e at) at ≡ from m E A (outside (opened d e (span at (end - at)))) end
+    text_done h y =
         let D = opened d e (span at (end - at)) in
-        to-text
+        to_text
         ∙ from_to m E A (text d e at) (angle D) end h (cond-false _ _ _ (stops h) ∙ cond-true _ _ _ (eq-eqb _ 60 y))
         ∙ sym (from_to m E A (outside D) (angle D) end h (cond-false _ _ _ (cond-true _ _ _ (inside_more d.depth) ∙ stops h) ∙ cond-true _ _ _ (eq-eqb _ 60 y)))
 
-    pub text-amp : end < length m → (get_or m end 0 ≡ 60 → ⊥) → get_or m end 0 ≡ 38 → from m E A (text d e at) at ≡ refused Ampersand end
-    text-amp h y w = to-text ∙ to_wrong m E A (text d e at) Ampersand end end h (cond-false _ _ _ (stops h) ∙ cond-false _ _ _ (ne_eqb _ 60 y) ∙ cond-true _ _ _ (eq-eqb _ 38 w))
+    pub text_amp : end < length m → (get_or m end 0 ≡ 60 → ⊥) → get_or m end 0 ≡ 38 → from m E A (text d e at) at ≡ refused Ampersand end
+    text_amp h y w = to_text ∙ to_wrong m E A (text d e at) Ampersand end end h (cond-false _ _ _ (stops h) ∙ cond-false _ _ _ (ne_eqb _ 60 y) ∙ cond-true _ _ _ (eq-eqb _ 38 w))
 
-    pub text-other : end < length m → (get_or m end 0 ≡ 60 → ⊥) → (get_or m end 0 ≡ 38 → ⊥) → from m E A (text d e at) at ≡ refused Grammar end
-    text-other h y w = to-text ∙ to_wrong m E A (text d e at) Grammar end end h (cond-false _ _ _ (stops h) ∙ cond-false _ _ _ (ne_eqb _ 60 y) ∙ cond-false _ _ _ (ne_eqb _ 38 w))
+    pub text_other : end < length m → (get_or m end 0 ≡ 60 → ⊥) → (get_or m end 0 ≡ 38 → ⊥) → from m E A (text d e at) at ≡ refused Grammar end
+    text_other h y w = to_text ∙ to_wrong m E A (text d e at) Grammar end end h (cond-false _ _ _ (stops h) ∙ cond-false _ _ _ (ne_eqb _ 60 y) ∙ cond-false _ _ _ (ne_eqb _ 38 w))

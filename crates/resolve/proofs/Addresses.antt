@@ -63,8 +63,8 @@ module _ (m : List ℕ) (es : List Element) (xs : List Attribute) (p : Prepared)
     pub joinable : true ≡ (not (broken q.template.now) && not (unjoinable q 0 0)) → (unaddressed m es xs p ≡ false) × (texts_of q ≡ texts_by m es xs p)
     joinable h = (joints ∙ and_not (broken q.template.now) (unjoinable q 0 0) h, with ∙ sym texts_are)
 
-    pub not-joinable : broken (unwrap_or (media_of m es xs p.chosen) []) ≡ false → false ≡ (not (broken q.template.now) && not (unjoinable q 0 0)) → unaddressed m es xs p ≡ true
-    not-joinable fit h =
+    pub not_joinable : broken (unwrap_or (media_of m es xs p.chosen) []) ≡ false → false ≡ (not (broken q.template.now) && not (unjoinable q 0 0)) → unaddressed m es xs p ≡ true
+    not_joinable fit h =
         let template : q.template.now ≡ media = ap (λ t. t.template) with in
         let same : broken q.template.now ≡ false = ap broken template ∙ sym (ap (λ o. broken (unwrap_or o [])) is) ∙ fit in
         joints ∙ and_fails (broken q.template.now) (unjoinable q 0 0) same h

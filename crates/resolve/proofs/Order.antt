@@ -28,20 +28,20 @@ module _ (a b c d e f g h : Bool) (na : a ≡ false) (nb : b ≡ false) (nc : c 
   at_fourth t = or_on a _ na ∙ or_on b _ nb ∙ or_on c _ nc ∙ or_here d _ t
 
   module _ (nd : d ≡ false) where
-    from-fifth : eight a b c d e f g h ≡ (e || (f || (g || h)))
-    from-fifth = or_on a _ na ∙ or_on b _ nb ∙ or_on c _ nc ∙ or_on d _ nd
+    from_fifth : eight a b c d e f g h ≡ (e || (f || (g || h)))
+    from_fifth = or_on a _ na ∙ or_on b _ nb ∙ or_on c _ nc ∙ or_on d _ nd
 
-    pub at-fifth : e ≡ true → eight a b c d e f g h ≡ true
-    at-fifth t = from-fifth ∙ or_here e _ t
+    pub at_fifth : e ≡ true → eight a b c d e f g h ≡ true
+    at_fifth t = from_fifth ∙ or_here e _ t
 
-    pub at-sixth : e ≡ false → f ≡ true → eight a b c d e f g h ≡ true
-    at-sixth ne t = from-fifth ∙ or_on e _ ne ∙ or_here f _ t
+    pub at_sixth : e ≡ false → f ≡ true → eight a b c d e f g h ≡ true
+    at_sixth ne t = from_fifth ∙ or_on e _ ne ∙ or_here f _ t
 
-    pub at-seventh : e ≡ false → f ≡ false → g ≡ true → eight a b c d e f g h ≡ true
-    at-seventh ne nf t = from-fifth ∙ or_on e _ ne ∙ or_on f _ nf ∙ or_here g _ t
+    pub at_seventh : e ≡ false → f ≡ false → g ≡ true → eight a b c d e f g h ≡ true
+    at_seventh ne nf t = from_fifth ∙ or_on e _ ne ∙ or_on f _ nf ∙ or_here g _ t
 
-    pub from-eighth : e ≡ false → f ≡ false → g ≡ false → eight a b c d e f g h ≡ h
-    from-eighth ne nf ng = from-fifth ∙ or_on e _ ne ∙ or_on f _ nf ∙ or_on g _ ng
+    pub from_eighth : e ≡ false → f ≡ false → g ≡ false → eight a b c d e f g h ≡ h
+    from_eighth ne nf ng = from_fifth ∙ or_on e _ ne ∙ or_on f _ nf ∙ or_on g _ ng
 
 -- whether one of the values cannot be read, value by value
 module _ (m : List ℕ) (es : List Element) (xs : List Attribute) (c : Chosen) (i : ℕ) where
@@ -73,21 +73,21 @@ module _ (m : List ℕ) (es : List Element) (xs : List Attribute) (c : Chosen) (
   spread = ap (λ b. A || (B || (C || b))) (unread_append (periodsAsked m es xs (take (i + 2) (periods m es xs))) _)
 
   module _ (a : A ≡ false) (b : B ≡ false) (k : C ≡ false) where
-    pub period-unread : D ≡ true → some_unread (asked m es xs c i) ≡ true
-    period-unread t = spread ∙ at_fourth A B C D E F G K a b k t
+    pub period_unread : D ≡ true → some_unread (asked m es xs c i) ≡ true
+    period_unread t = spread ∙ at_fourth A B C D E F G K a b k t
 
     module _ (d : D ≡ false) where
-      pub presentation-unread : E ≡ true → some_unread (asked m es xs c i) ≡ true
-      presentation-unread t = spread ∙ at-fifth A B C D E F G K a b k d t
+      pub presentation_unread : E ≡ true → some_unread (asked m es xs c i) ≡ true
+      presentation_unread t = spread ∙ at_fifth A B C D E F G K a b k d t
 
-      pub duration-unread : E ≡ false → F ≡ true → some_unread (asked m es xs c i) ≡ true
-      duration-unread e t = spread ∙ at-sixth A B C D E F G K a b k d e t
+      pub duration_unread : E ≡ false → F ≡ true → some_unread (asked m es xs c i) ≡ true
+      duration_unread e t = spread ∙ at_sixth A B C D E F G K a b k d e t
 
-      pub offset-unread : E ≡ false → F ≡ false → G ≡ true → some_unread (asked m es xs c i) ≡ true
-      offset-unread e f t = spread ∙ at-seventh A B C D E F G K a b k d e f t
+      pub offset_unread : E ≡ false → F ≡ false → G ≡ true → some_unread (asked m es xs c i) ≡ true
+      offset_unread e f t = spread ∙ at_seventh A B C D E F G K a b k d e f t
 
-      pub all-but-timeline : E ≡ false → F ≡ false → G ≡ false → some_unread (asked m es xs c i) ≡ K
-      all-but-timeline e f g = spread ∙ from-eighth A B C D E F G K a b k d e f g
+      pub all_but_timeline : E ≡ false → F ≡ false → G ≡ false → some_unread (asked m es xs c i) ≡ K
+      all_but_timeline e f g = spread ∙ from_eighth A B C D E F G K a b k d e f g
 
 -- a number in its range, or its default, is at most the highest
 pub most_or : (o : Option ℕ) (d low high : ℕ) → IfSome o (λ n. (low ≤ n) × (n ≤ high)) → d ≤ high → unwrap_or o d ≤ high

@@ -53,12 +53,12 @@ module _ (m : List ℕ) (es : List Element) (xs : List Attribute) (i j rows : �
       pub accepted : unaddressed m es xs p ≡ false → First ≡ None
       accepted h = last ∙ first_on (unaddressed m es xs p) NoAddress [] h
 
-      pub accepted-answer : unaddressed m es xs p ≡ false → (v : Values) → v ≡ values_by m es xs p → ◌≡◌ {A = Result Values ResolveFault} (Ok v) (outcome m es xs i j rows)
-      accepted-answer h v e =
+      pub accepted_answer : unaddressed m es xs p ≡ false → (v : Values) → v ≡ values_by m es xs p → ◌≡◌ {A = Result Values ResolveFault} (Ok v) (outcome m es xs i j rows)
+      accepted_answer h v e =
           ap (λ (x : Values). Ok x) (e ∙ ap (values_by m es xs) is) ∙ sym (ap (λ o. answering m es xs o (prepared m es xs i j)) (accepted h))
 
-      pub accepted-first : unaddressed m es xs p ≡ false → IsFirst (conditions m es xs i j rows) None
-      accepted-first h = subst (IsFirst (conditions m es xs i j rows)) (accepted h) (is_first (conditions m es xs i j rows))
+      pub accepted_first : unaddressed m es xs p ≡ false → IsFirst (conditions m es xs i j rows) None
+      accepted_first h = subst (IsFirst (conditions m es xs i j rows)) (accepted h) (is_first (conditions m es xs i j rows))
 
-      pub accepted-runs : unaddressed m es xs p ≡ false → (ys : List Run) → ys ≡ runs_by m es xs p → ys ≡ runs_left m es xs i j rows
-      accepted-runs h ys e = e ∙ ap (runs_by m es xs) is ∙ sym (ap (λ o. leaving m es xs o (runs_by m es xs (prepared m es xs i j))) (accepted h))
+      pub accepted_runs : unaddressed m es xs p ≡ false → (ys : List Run) → ys ≡ runs_by m es xs p → ys ≡ runs_left m es xs i j rows
+      accepted_runs h ys e = e ∙ ap (runs_by m es xs) is ∙ sym (ap (λ o. leaving m es xs o (runs_by m es xs (prepared m es xs i j))) (accepted h))

@@ -38,46 +38,46 @@ module _ (s : List ℕ) (at : ℕ) where
     more : 0 < length (drop at s)
     more = omega (arith, length-drop at s)
 
-    whole-rest : {A : Type 0} (o : Option A) (f : List ℕ → Option A) → o ≡ f (take (length s - at) (drop at s)) → o ≡ f (drop at s)
-    whole-rest o f e = e ∙ ap f (take_rest s at)
+    whole_rest : {A : Type 0} (o : Option A) (f : List ℕ → Option A) → o ≡ f (take (length s - at) (drop at s)) → o ≡ f (drop at s)
+    whole_rest o f e = e ∙ ap f (take_rest s at)
 
     module _ (p : Piece) (n : ℕ) (found : Some (p, n) ≡ measured text_of (next (take (length s - at) (drop at s)))) where
-      is-next : (next (drop at s) ≡ Some p) × (n ≡ length (text_of p))
-      is-next = measured_some text_of (next (drop at s)) p n (whole-rest (Some (p, n)) (λ t. measured text_of (next t)) found)
+      is_next : (next (drop at s) ≡ Some p) × (n ≡ length (text_of p))
+      is_next = measured_some text_of (next (drop at s)) p n (whole_rest (Some (p, n)) (λ t. measured text_of (next t)) found)
 
       pub fits : at + n ≤ length s
       fits =
-          let f = next_front (drop at s) p is-next.0 in
-          omega (arith, is-next.1, front_fits (drop at s) (text_of p) f.1.0 f.1.1, length-drop at s)
+          let f = next_front (drop at s) p is_next.0 in
+          omega (arith, is_next.1, front_fits (drop at s) (text_of p) f.1.0 f.1.1, length-drop at s)
 
-      text-there : drop at s ≡ text_of p ++ drop (at + n) s
-      text-there =
-          let f = next_front (drop at s) p is-next.0 in
+      text_there : drop at s ≡ text_of p ++ drop (at + n) s
+      text_there =
+          let f = next_front (drop at s) p is_next.0 in
           let e : f.1.0 ≡ drop (at + n) s =
           sym (front_rest (drop at s) (text_of p) f.1.0 f.1.1)
           ∙ drop-drop (length (text_of p)) at s
-          ∙ ap (λ k. drop (at + k) s) (sym is-next.1) in
+          ∙ ap (λ k. drop (at + k) s) (sym is_next.1) in
           f.1.1 ∙ ap (λ t. text_of p ++ t) e
 
       pub at_piece : Answer s at (PieceTo p (at + n))
       at_piece = record {
-        value = ap (λ k. PieceTo p (at + k)) is-next.1 ∙ sym (next_at_lem (drop at s) (Some p) more is-next.0);
+        value = ap (λ k. PieceTo p (at + k)) is_next.1 ∙ sym (next_at_lem (drop at s) (Some p) more is_next.0);
         told = record {
-          allowed = (next_front (drop at s) p is-next.0).0;
-          text = text-there;
-          long = ap (λ k. at + k) is-next.1;
-          more = omega (arith, is-next.1, text_some p);
+          allowed = (next_front (drop at s) p is_next.0).0;
+          text = text_there;
+          long = ap (λ k. at + k) is_next.1;
+          more = omega (arith, is_next.1, text_some p);
           within = fits;
         };
         only = λ q rest ok e.
-            let same : Some p ≡ Some q = sym is-next.0 ∙ ap next e ∙ next_complete q rest ok in
+            let same : Some p ≡ Some q = sym is_next.0 ∙ ap next e ∙ next_complete q rest ok in
             let eq : p ≡ q = cc in
-            ap (λ k. PieceTo p (at + k)) is-next.1 ∙ ap (λ x. PieceTo x (at + length (text_of x))) eq;
+            ap (λ k. PieceTo p (at + k)) is_next.1 ∙ ap (λ x. PieceTo x (at + length (text_of x))) eq;
       }
 
-    pub at-break : None ≡ measured text_of (next (take (length s - at) (drop at s))) → Answer s at Broken
-    at-break found =
-        let none : next (drop at s) ≡ None = measured_none text_of (next (drop at s)) (whole-rest None (λ t. measured text_of (next t)) found) in
+    pub at_break : None ≡ measured text_of (next (take (length s - at) (drop at s))) → Answer s at Broken
+    at_break found =
+        let none : next (drop at s) ≡ None = measured_none text_of (next (drop at s)) (whole_rest None (λ t. measured text_of (next t)) found) in
         record {
           value = sym (next_at_lem (drop at s) None more none);
           told = record { inside = inside; none = λ p rest ok e. no_some p (sym none ∙ ap next e ∙ next_complete p rest ok) };

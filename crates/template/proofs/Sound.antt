@@ -159,9 +159,9 @@ Begun t p = Allowed p × Front t (text_of p)
 
 module _ (i : Identifier) (t : List ℕ) (p : Piece) where
   module _ (name : begins (name_of i) t ≡ true) where
-    by-takes : (tag : Option ℕ) → closing_of (drop (length (name_of i)) t) ≡ Some tag → (x : Bool) →
+    by_takes : (tag : Option ℕ) → closing_of (drop (length (name_of i)) t) ≡ Some tag → (x : Bool) →
         takes i tag ≡ x → when x (Some (Value i tag)) ≡ Some p → Begun (36 ∷ t) p
-    by-takes tag close true e k =
+    by_takes tag close true e k =
         let v : Value i tag ≡ p = cc in
         let f = closing_front (drop (length (name_of i)) t) tag close in
         subst (Begun (36 ∷ t)) v (
@@ -174,16 +174,16 @@ module _ (i : Identifier) (t : List ℕ) (p : Piece) where
                 ∙ sym (append_assoc (name_of i) (closing_text tag) f.1.0)),
           ),
         )
-    by-takes tag close false e k = no_some p k
+    by_takes tag close false e k = no_some p k
 
-    by-closing : (o : Option (Option ℕ)) → closing_of (drop (length (name_of i)) t) ≡ o →
+    by_closing : (o : Option (Option ℕ)) → closing_of (drop (length (name_of i)) t) ≡ o →
         and_then o (value_with i) ≡ Some p → Begun (36 ∷ t) p
-    by-closing None e k = no_some p k
-    by-closing (Some tag) e k = by-takes tag e (takes i tag) refl k
+    by_closing None e k = no_some p k
+    by_closing (Some tag) e k = by_takes tag e (takes i tag) refl k
 
   by_name : (x : Bool) → begins (name_of i) t ≡ x →
       when x (and_then (closing_of (drop (length (name_of i)) t)) (value_with i)) ≡ Some p → Begun (36 ∷ t) p
-  by_name true e k = by-closing e (closing_of (drop (length (name_of i)) t)) refl k
+  by_name true e k = by_closing e (closing_of (drop (length (name_of i)) t)) refl k
   by_name false e k = no_some p k
 
   value_front : value_of i t ≡ Some p → Begun (36 ∷ t) p

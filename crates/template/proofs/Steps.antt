@@ -32,32 +32,32 @@ module _ (s : List ℕ) (at : ℕ) where
   -- `%0`, and behind it the bytes a and b
   module _ (mark : begins (codes "$") (drop at s) ≡ false) (sign : begins (codes "%0") (drop at s) ≡ true)
       (a b : ℕ) (first : a ≡ get_or s (at + 2) 0) (second : b ≡ get_or s (at + 3) 0) where
-    width-there : (o : Option ℕ) → width_of a b ≡ o → width_of (get_or (drop at s) 2 0) (get_or (drop at s) 3 0) ≡ o
-    width-there o e =
+    width_there : (o : Option ℕ) → width_of a b ≡ o → width_of (get_or (drop at s) 2 0) (get_or (drop at s) 3 0) ≡ o
+    width_there o e =
         ap (λ x. width_of x (get_or (drop at s) 3 0)) (get_or-drop at s 2 0 ∙ sym first)
         ∙ ap (λ x. width_of a x) (get_or-drop at s 3 0 ∙ sym second)
         ∙ e
 
-    pub no-width : width_of a b ≡ None → closing_of (drop at s) ≡ None
-    no-width e = rw (mark, sign, width-there None e) refl
+    pub no_width : width_of a b ≡ None → closing_of (drop at s) ≡ None
+    no_width e = rw (mark, sign, width_there None e) refl
 
     -- the width w of n digits
     module _ (w n : ℕ) (width : (width_of a b ≡ Some w) × (n ≡ length (width_text w))) where
-      end-there : (x : Bool) → begins (codes "d$") (drop (at + 2 + n) s) ≡ x →
+      end_there : (x : Bool) → begins (codes "d$") (drop (at + 2 + n) s) ≡ x →
           begins (codes "d$") (drop (2 + length (width_text w)) (drop at s)) ≡ x
-      end-there x e =
+      end_there x e =
           ap (begins (codes "d$"))
           (drop-drop (2 + length (width_text w)) at s ∙ ap (λ k. drop k s) (omega (arith, width.1)))
           ∙ e
 
       pub no_end : begins (codes "d$") (drop (at + 2 + n) s) ≡ false → closing_of (drop at s) ≡ None
-      no_end e = rw (mark, sign, width-there (Some w) width.0, end-there false e) refl
+      no_end e = rw (mark, sign, width_there (Some w) width.0, end_there false e) refl
 
-      pub tag-there : begins (codes "d$") (drop (at + 2 + n) s) ≡ true →
+      pub tag_there : begins (codes "d$") (drop (at + 2 + n) s) ≡ true →
           Some (Some w, 4 + n) ≡ measured closing_text (closing_of (drop at s))
-      tag-there e =
+      tag_there e =
           let f : closing_of (drop at s) ≡ Some (Some w) =
-          rw (mark, sign, width-there (Some w) width.0, end-there true e) refl in
+          rw (mark, sign, width_there (Some w) width.0, end_there true e) refl in
           ap (λ k. Some (Some w, k)) (omega (arith, width.1, tag_length w)) ∙ sym (ap (measured closing_text) f)
 
 -- what stands in the text s behind a `$` and the name of i

@@ -9,7 +9,7 @@ use Rattle.timeline.specs.Laws.Splits.{counts_split, ended_within}
 use Rattle.timeline.specs.Laws.Shifts.{sound_shifted}
 use Rattle.timeline.proofs.Filters.{kept_map, kept_kept, kept_same, kept_never}
 use Rattle.timeline.proofs.Asked.{length-after}
-use Rattle.timeline.proofs.Layered.{after-shifted}
+use Rattle.timeline.proofs.Layered.{after_shifted}
 
 -- those that have ended are what is left of those that have not
 pub ended_left : (xs : List Segment) → Sound xs → (tick : ℕ) → length (after tick xs) + ended_by xs tick ≡ length xs
@@ -18,16 +18,16 @@ ended_left xs ok tick =
 
 module _ (xs : List Segment) (ok : Sound xs) where
   module _ (by from m : ℕ) (sum : m ≡ min (by + from) 18446744073709551615) where
-    pub length-after-shifted : length (after m xs) ≡ length (after from (shifted by xs))
-    length-after-shifted = sym (ap length (after-shifted xs ok by from m sum) ∙ length-map (after m xs) (earlier by))
+    pub length-after_shifted : length (after m xs) ≡ length (after from (shifted by xs))
+    length-after_shifted = sym (ap length (after_shifted xs ok by from m sum) ∙ length-map (after m xs) (earlier by))
 
-    pub places-shifted : (n : ℕ) → ended_by xs m + n ≡ ended_by xs by + (ended_by (shifted by xs) from + n)
-    places-shifted n =
-        omega (arith, ended_left xs ok by, ended_left xs ok m, ended_left (shifted by xs) (sound_shifted by xs ok) from, length-after-shifted, length-map (after by xs) (earlier by))
+    pub places_shifted : (n : ℕ) → ended_by xs m + n ≡ ended_by xs by + (ended_by (shifted by xs) from + n)
+    places_shifted n =
+        omega (arith, ended_left xs ok by, ended_left xs ok m, ended_left (shifted by xs) (sound_shifted by xs ok) from, length-after_shifted, length-map (after by xs) (earlier by))
 
   module _ (at from : ℕ) (early : from < at) where
-    pub places-cut : ended_by xs from ≡ ended_by (cut_off at xs) from
-    places-cut =
+    pub places_cut : ended_by xs from ≡ ended_by (cut_off at xs) from
+    places_cut =
         sym (ap length (kept_map (λ s. leb (end s) from) (shortened at) (filter (λ s. ltb s.start at) xs))
         ∙ length-map (filter (λ s. leb (end (shortened at s)) from) (filter (λ s. ltb s.start at) xs)) (shortened at)
         ∙ ap length (kept_kept (λ s. leb (end (shortened at s)) from) (λ s. ltb s.start at) xs

@@ -51,14 +51,14 @@ module _ (xs : List Segment) (ok : Sound xs) where
       ap length (kept_same Limited (meets from 18446744073709551615) (λ s. ltb from (end s)) (λ s l. let w = l.within in grind (arith, nat_tests)) xs ok.limited)
 
   module _ (by from m : ℕ) (sum : m ≡ min (by + from) 18446744073709551615) where
-    pub after-shifted : after from (shifted by xs) ≡ map (earlier by) (after m xs)
-    after-shifted =
+    pub after_shifted : after from (shifted by xs) ≡ map (earlier by) (after m xs)
+    after_shifted =
         kept_map (λ s. ltb from (end s)) (earlier by) (after by xs)
         ∙ ap (map (earlier by)) (kept_kept (λ s. ltb from (end (earlier by s))) (λ s. ltb by (end s)) xs
         ∙ kept_same Limited (λ s. ltb by (end s) && ltb from (end (earlier by s))) (λ s. ltb m (end s)) (λ s l. let w = l.within in grind (arith, nat_tests)) xs ok.limited)
 
-    pub within-shifted : (to n : ℕ) → n ≡ min (by + to) 18446744073709551615 → 0 < to → within_of (shifted by xs) from to ≡ within_of xs m n
-    within-shifted to n total some =
+    pub within_shifted : (to n : ℕ) → n ≡ min (by + to) 18446744073709551615 → 0 < to → within_of (shifted by xs) from to ≡ within_of xs m n
+    within_shifted to n total some =
         ap length (kept_map (meets from to) (earlier by) (after by xs))
         ∙ length-map (filter (λ s. meets from to (earlier by s)) (after by xs)) (earlier by)
         ∙ ap length (kept_kept (λ s. meets from to (earlier by s)) (λ s. ltb by (end s)) xs
@@ -68,13 +68,13 @@ module _ (xs : List Segment) (ok : Sound xs) where
   length_shift by = within_all by ∙ sym (length-map (after by xs) (earlier by))
 
   module _ (at : ℕ) where
-    pub length-cutting : within_of xs 0 at ≡ length (cut_off at xs)
-    length-cutting =
+    pub length_cutting : within_of xs 0 at ≡ length (cut_off at xs)
+    length_cutting =
         ap length (kept_same Limited (meets 0 at) (λ s. ltb s.start at) (λ s l. let w = l.long in grind (arith, nat_tests)) xs ok.limited)
         ∙ sym (length-map (filter (λ s. ltb s.start at) xs) (shortened at))
 
-    pub within-cut : (from to n : ℕ) → n ≡ min to at → from < at → within_of (cut_off at xs) from to ≡ within_of xs from n
-    within-cut from to n least early =
+    pub within_cut : (from to n : ℕ) → n ≡ min to at → from < at → within_of (cut_off at xs) from to ≡ within_of xs from n
+    within_cut from to n least early =
         ap length (kept_map (meets from to) (shortened at) (filter (λ s. ltb s.start at) xs))
         ∙ length-map (filter (λ s. meets from to (shortened at s)) (filter (λ s. ltb s.start at) xs)) (shortened at)
         ∙ ap length (kept_kept (λ s. meets from to (shortened at s)) (λ s. ltb s.start at) xs
@@ -88,34 +88,34 @@ module _ (xs : List Segment) (ok : Sound xs) where
         ∙ kept_same Limited (λ s. ltb s.start at && ltb from (end (shortened at s))) (λ s. false) (λ s l. grind (arith, nat_tests)) xs ok.limited
         ∙ kept_never xs)
 
-    pub within-past : (from to : ℕ) → at ≤ from → within_of (cut_off at xs) from to ≡ 0
-    within-past from to late =
+    pub within_past : (from to : ℕ) → at ≤ from → within_of (cut_off at xs) from to ≡ 0
+    within_past from to late =
         ap length (sym (kept_kept (λ s. ltb s.start to) (λ s. ltb from (end s)) (cut_off at xs)) ∙ ap (filter (λ s. ltb s.start to)) (none_after from late))
 
-    pub after-cut : (from : ℕ) → from < at → after from (cut_off at xs) ≡ map (shortened at) (filter (λ s. ltb s.start at) (after from xs))
-    after-cut from early =
+    pub after_cut : (from : ℕ) → from < at → after from (cut_off at xs) ≡ map (shortened at) (filter (λ s. ltb s.start at) (after from xs))
+    after_cut from early =
         kept_map (λ s. ltb from (end s)) (shortened at) (filter (λ s. ltb s.start at) xs)
         ∙ ap (map (shortened at)) (kept_kept (λ s. ltb from (end (shortened at s))) (λ s. ltb s.start at) xs
         ∙ kept_same Limited (λ s. ltb s.start at && ltb from (end (shortened at s))) (λ s. ltb from (end s) && ltb s.start at) (λ s l. let w = l.long in grind (arith, nat_tests)) xs ok.limited
         ∙ sym (kept_kept (λ s. ltb s.start at) (λ s. ltb from (end s)) xs))
 
-    starts-turn : Turns (λ s. ltb s.start at) xs
-    starts-turn i j d h l t = lt-ltb (get_or xs i d).start at (omega (arith, starts_rise xs ok i j d h l, ltb-true (get_or xs j d).start at t))
+    starts_turn : Turns (λ s. ltb s.start at) xs
+    starts_turn i j d h l t = lt-ltb (get_or xs i d).start at (omega (arith, starts_rise xs ok i j d h l, ltb-true (get_or xs j d).start at t))
 
-    starts-turn-after : (from : ℕ) → Turns (λ s. ltb s.start at) (after from xs)
-    starts-turn-after from =
+    starts_turn_after : (from : ℕ) → Turns (λ s. ltb s.start at) (after from xs)
+    starts_turn_after from =
         let k = ended_by xs from in
         subst (Turns (λ s. ltb s.start at)) (sym (after_is xs from k (counts_split xs ok from k refl)))
         (λ i j d h l t.
         let m : j < length xs - k = rw (length-drop k xs) at l in
-        rw (get_or-drop k xs i d) (starts-turn (k + i) (k + j) d (omega arith) (omega arith) (rw (get_or-drop k xs j d) at t)))
+        rw (get_or-drop k xs i d) (starts_turn (k + i) (k + j) d (omega arith) (omega arith) (rw (get_or-drop k xs j d) at t)))
 
-    pub told-cutting : (i : ℕ) → told (cut_off at xs) i ≡ mapped (shortened at) (only (λ s. ltb s.start at) (told xs i))
-    told-cutting i =
-        told_map (shortened at) (filter (λ s. ltb s.start at) xs) i ∙ ap (mapped (shortened at)) (told_front (λ s. ltb s.start at) xs starts-turn i)
+    pub told_cutting : (i : ℕ) → told (cut_off at xs) i ≡ mapped (shortened at) (only (λ s. ltb s.start at) (told xs i))
+    told_cutting i =
+        told_map (shortened at) (filter (λ s. ltb s.start at) xs) i ∙ ap (mapped (shortened at)) (told_front (λ s. ltb s.start at) xs starts_turn i)
 
-    pub told-after-cut : (from : ℕ) → from < at → (i : ℕ) → told (after from (cut_off at xs)) i ≡ mapped (shortened at) (only (λ s. ltb s.start at) (told (after from xs) i))
-    told-after-cut from early i =
-        ap (λ ys. told ys i) (after-cut from early)
+    pub told_after_cut : (from : ℕ) → from < at → (i : ℕ) → told (after from (cut_off at xs)) i ≡ mapped (shortened at) (only (λ s. ltb s.start at) (told (after from xs) i))
+    told_after_cut from early i =
+        ap (λ ys. told ys i) (after_cut from early)
         ∙ told_map (shortened at) (filter (λ s. ltb s.start at) (after from xs)) i
-        ∙ ap (mapped (shortened at)) (told_front (λ s. ltb s.start at) (after from xs) (starts-turn-after from) i)
+        ∙ ap (mapped (shortened at)) (told_front (λ s. ltb s.start at) (after from xs) (starts_turn_after from) i)

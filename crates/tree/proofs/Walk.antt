@@ -20,17 +20,17 @@ module _ (m : List ℕ) (e : ℕ) (n : List ℕ) where
     bears : Decides (belongs m e n (get_or rows i no_attribute)) (Bears m e n rows i)
     bears = Decides-and _ _ (Decides-eqb _ e) (bytes_eq-Decides _ n)
 
-    pub bears-here : true ≡ belongs m e n (get_or rows i no_attribute) → Bears m e n rows i
-    bears-here b = bears.0 (sym b)
+    pub bears_here : true ≡ belongs m e n (get_or rows i no_attribute) → Bears m e n rows i
+    bears_here b = bears.0 (sym b)
 
-    pub bears-not : false ≡ belongs m e n (get_or rows i no_attribute) → Bears m e n rows i → ⊥
-    bears-not b = not_from_Decides _ bears (sym b)
+    pub bears_not : false ≡ belongs m e n (get_or rows i no_attribute) → Bears m e n rows i → ⊥
+    bears_not b = not_from_Decides _ bears (sym b)
 
-    pub value-here : i < length rows → true ≡ belongs m e n (get_or rows i no_attribute) → value_of m (drop i rows) e n ≡ Some (part m (get_or rows i no_attribute).value)
-    value-here h b = at_drop_more (λ l. value_of m l e n) rows i no_attribute h ∙ cond-true _ _ _ (sym b)
+    pub value_here : i < length rows → true ≡ belongs m e n (get_or rows i no_attribute) → value_of m (drop i rows) e n ≡ Some (part m (get_or rows i no_attribute).value)
+    value_here h b = at_drop_more (λ l. value_of m l e n) rows i no_attribute h ∙ cond-true _ _ _ (sym b)
 
-    pub value-more : i < length rows → false ≡ belongs m e n (get_or rows i no_attribute) → value_of m (drop i rows) e n ≡ value_of m (drop (i + 1) rows) e n
-    value-more h b = at_drop_more (λ l. value_of m l e n) rows i no_attribute h ∙ cond-false _ _ _ (sym b)
+    pub value_more : i < length rows → false ≡ belongs m e n (get_or rows i no_attribute) → value_of m (drop i rows) e n ≡ value_of m (drop (i + 1) rows) e n
+    value_more h b = at_drop_more (λ l. value_of m l e n) rows i no_attribute h ∙ cond-false _ _ _ (sym b)
 
   module _ (rows : List Element) (i : ℕ) where
     child : Decides (is_child m e n (get_or rows i no_element)) (Child m e n rows i)
@@ -39,11 +39,11 @@ module _ (m : List ℕ) (e : ℕ) (n : List ℕ) where
     pub child_fits : true ≡ is_child m e n (get_or rows i no_element) → Child m e n rows i
     child_fits b = child.0 (sym b)
 
-    pub child-not : false ≡ is_child m e n (get_or rows i no_element) → Child m e n rows i → ⊥
-    child-not b = not_from_Decides _ child (sym b)
+    pub child_not : false ≡ is_child m e n (get_or rows i no_element) → Child m e n rows i → ⊥
+    child_not b = not_from_Decides _ child (sym b)
 
-    pub child-here : i < length rows → true ≡ is_child m e n (get_or rows i no_element) → child_from m e n i (drop i rows) ≡ Some i
-    child-here h b = at_drop_more (child_from m e n i) rows i no_element h ∙ cond-true _ _ _ (sym b)
+    pub child_here : i < length rows → true ≡ is_child m e n (get_or rows i no_element) → child_from m e n i (drop i rows) ≡ Some i
+    child_here h b = at_drop_more (child_from m e n i) rows i no_element h ∙ cond-true _ _ _ (sym b)
 
-    pub child-more : i < length rows → false ≡ is_child m e n (get_or rows i no_element) → child_from m e n i (drop i rows) ≡ child_from m e n (i + 1) (drop (i + 1) rows)
-    child-more h b = at_drop_more (child_from m e n i) rows i no_element h ∙ cond-false _ _ _ (sym b)
+    pub child_more : i < length rows → false ≡ is_child m e n (get_or rows i no_element) → child_from m e n i (drop i rows) ≡ child_from m e n (i + 1) (drop (i + 1) rows)
+    child_more h b = at_drop_more (child_from m e n i) rows i no_element h ∙ cond-false _ _ _ (sym b)

@@ -9,7 +9,7 @@ use Rattle.values.specs.Fields.{front, has_field, field_len, field_num, behind, 
 use Rattle.values.specs.Duration.{Field, absent, given, Seconds, whole, pointed, Digits, SoundField, SoundSeconds, field_text, seconds_text, field_value, seconds_value, Duration, duration_of}
 use Rattle.values.proofs.Choosing.{and_false}
 use Rattle.values.proofs.Numbers.{digits_head}
-use Rattle.values.proofs.Ways.{has_decimals_lem, by_whole, by-point}
+use Rattle.values.proofs.Ways.{has_decimals_lem, by_whole, by_point}
 
 digit_true : (b : ℕ) → 48 ≤ b → b ≤ 57 → digit b ≡ true
 digit_true b h k = grind (arith, nat_tests)
@@ -107,9 +107,9 @@ seconds_take (pointed ds fs) h =
     let w = num ds (fs ++ (83 ∷ [])) 46 h.0.0 refl h.0.1 in
     let f : field_num 83 (behind xs) ≡ decimal fs = ap (field_num 83) o ∙ num fs [] 83 h.1.0 refl h.1.1 in
     let d = has_decimals_lem xs (omega arith) (omega arith) (omega (arith, h.2)) in
-    let l : seconds_len xs ≡ field_len 46 xs + field_len 83 (behind xs) = by-point xs _ _ z d in
-    let v : seconds_num xs ≡ field_num 46 xs = by-point xs _ _ z d in
-    let m : seconds_millis xs ≡ field_num 83 (behind xs) * 10 ^ (4 - field_len 83 (behind xs)) = by-point xs _ _ z d in
+    let l : seconds_len xs ≡ field_len 46 xs + field_len 83 (behind xs) = by_point xs _ _ z d in
+    let v : seconds_num xs ≡ field_num 46 xs = by_point xs _ _ z d in
+    let m : seconds_millis xs ≡ field_num 83 (behind xs) * 10 ^ (4 - field_len 83 (behind xs)) = by_point xs _ _ z d in
     let e : 4 - field_len 83 (behind xs) ≡ 3 - length fs = omega arith in
     let t : field_num 83 (behind xs) * 10 ^ (4 - field_len 83 (behind xs)) ≡ decimal fs * 10 ^ (3 - length fs) = ap (λ x. x * 10 ^ (4 - field_len 83 (behind xs))) f ∙ ap (λ x. decimal fs * 10 ^ x) e in
     record {

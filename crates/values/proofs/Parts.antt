@@ -7,7 +7,7 @@ use Rattle.std.proofs.lemmas.Bool.Decides.{nat_tests}
 use Rattle.values.specs.Whole.{digit, decimal}
 use Rattle.values.specs.Fields.{front, has_field, field_len, field_num, behind, has_decimals, seconds_len, seconds_num, seconds_millis}
 use Rattle.values.proofs.Numbers.{front_digits, decimal_lt}
-use Rattle.values.proofs.Ways.{has_decimals_lem, no_decimals, by-point, by-none}
+use Rattle.values.proofs.Ways.{has_decimals_lem, no_decimals, by_point, by_none}
 
 -- a field of at most three digits is below a thousand
 field_small : (unit : ℕ) (xs : List ℕ) → field_len unit xs ≤ 4 → field_num unit xs ≤ 999
@@ -39,9 +39,9 @@ module _ (s : List ℕ) (at plain point last : ℕ) (a : plain ≡ at + field_le
   nothing h =
       let l = long in
       let d = no_decimals (drop at s) (λ t. omega (arith, h (omega arith))) in
-      let e : seconds_len (drop at s) ≡ 0 = by-none (drop at s) _ _ no_plain d in
-      let f : seconds_num (drop at s) ≡ 0 = by-none (drop at s) _ _ no_plain d in
-      let g : seconds_millis (drop at s) ≡ 0 = by-none (drop at s) _ _ no_plain d in
+      let e : seconds_len (drop at s) ≡ 0 = by_none (drop at s) _ _ no_plain d in
+      let f : seconds_num (drop at s) ≡ 0 = by_none (drop at s) _ _ no_plain d in
+      let g : seconds_millis (drop at s) ≡ 0 = by_none (drop at s) _ _ no_plain d in
       (omega arith, ap (λ k. min k 100000000001) (sym f), sym g)
 
   module _ (h : at < point) (k : point < last) (t : last - point ≤ 4) where
@@ -52,17 +52,17 @@ module _ (s : List ℕ) (at plain point last : ℕ) (a : plain ≡ at + field_le
     decimals = let l = long in has_decimals_lem (drop at s) (omega arith) (omega arith) (omega arith)
 
     pub ends : last ≡ at + seconds_len (drop at s)
-    ends = let e : seconds_len (drop at s) ≡ field_len 46 (drop at s) + field_len 83 (behind (drop at s)) = by-point (drop at s) _ _ no_plain decimals in omega (arith, long)
+    ends = let e : seconds_len (drop at s) ≡ field_len 46 (drop at s) + field_len 83 (behind (drop at s)) = by_point (drop at s) _ _ no_plain decimals in omega (arith, long)
 
     pub wholes : (v : ℕ) → v ≡ min (field_num 46 (drop at s)) 100000000001 → v ≡ min (seconds_num (drop at s)) 100000000001
-    wholes v e = let f : seconds_num (drop at s) ≡ field_num 46 (drop at s) = by-point (drop at s) _ _ no_plain decimals in e ∙ ap (λ x. min x 100000000001) (sym f)
+    wholes v e = let f : seconds_num (drop at s) ≡ field_num 46 (drop at s) = by_point (drop at s) _ _ no_plain decimals in e ∙ ap (λ x. min x 100000000001) (sym f)
 
-    pub millis-are : (n m : ℕ) → n ≡ min (field_num 83 (drop point s)) 100000000001 → m ≡ n * 10 ^ (4 - (last - point)) → (m ≡ seconds_millis (drop at s)) × (m ≤ 99900)
-    millis-are n m en em =
+    pub millis_are : (n m : ℕ) → n ≡ min (field_num 83 (drop point s)) 100000000001 → m ≡ n * 10 ^ (4 - (last - point)) → (m ≡ seconds_millis (drop at s)) × (m ≤ 99900)
+    millis_are n m en em =
         let q : 0 < field_len 83 (behind (drop at s)) = omega (arith, few) in
         let small = field_small 83 (behind (drop at s)) (omega (arith, few)) in
         let num : n ≡ field_num 83 (behind (drop at s)) = en ∙ ap (λ x. min (field_num 83 x) 100000000001) same_behind ∙ omega arith in
-        let g : seconds_millis (drop at s) ≡ field_num 83 (behind (drop at s)) * 10 ^ (4 - field_len 83 (behind (drop at s))) = by-point (drop at s) _ _ no_plain decimals in
+        let g : seconds_millis (drop at s) ≡ field_num 83 (behind (drop at s)) * 10 ^ (4 - field_len 83 (behind (drop at s))) = by_point (drop at s) _ _ no_plain decimals in
         let p : 10 ^ (4 - (last - point)) ≤ 10 ^ 2 = pow-le-pow_right {n = 10} (omega arith) {i = 4 - (last - point)} {j = 2} (omega (arith, few, field_long 83 (behind (drop at s)) q)) in (
           em ∙ ap (λ x. x * 10 ^ (4 - (last - point))) num ∙ ap (λ x. field_num 83 (behind (drop at s)) * 10 ^ (4 - x)) few ∙ sym g,
           omega (arith, em, mul-le-mul {n₁ = n} {m₁ = 10 ^ (4 - (last - point))} {n₂ = 999} {m₂ = 100} (omega arith) p),

@@ -22,21 +22,21 @@ module _ {X : Type 0} (read : List ℕ → Result X ValueFault) where
   tested (Err e) = refl
 
   module _ (kind : Kind) (same : (t : List ℕ) → readable kind t ≡ is_ok (read t)) where
-    refused-given : (t : Option (List ℕ)) → refused_as kind false t ≡ not (is_ok (given read t))
-    refused-given None = refl
-    refused-given (Some t) = ap not (same t) ∙ tested (read t)
+    refused_given : (t : Option (List ℕ)) → refused_as kind false t ≡ not (is_ok (given read t))
+    refused_given None = refl
+    refused_given (Some t) = ap not (same t) ∙ tested (read t)
 
     -- a text that is read is not refused
     pub read_ok : (u t : Option (List ℕ)) (o : Option X) → u ≡ t → Ok o ≡ given read u → refused_as kind false t ≡ false
-    read_ok u t o is e = refused-given t ∙ sym (ap (λ (r : Result (Option X) ValueFault). not (is_ok r)) (e ∙ ap (given read) is))
+    read_ok u t o is e = refused_given t ∙ sym (ap (λ (r : Result (Option X) ValueFault). not (is_ok r)) (e ∙ ap (given read) is))
 
     -- one that is not is refused, whether it must be there or not
-    pub read-err : (u t : Option (List ℕ)) (f : ValueFault) → u ≡ t → Err f ≡ given read u → (needed : Bool) → refused_as kind needed t ≡ true
-    read-err u None f is e needed =
+    pub read_err : (u t : Option (List ℕ)) (f : ValueFault) → u ≡ t → Err f ≡ given read u → (needed : Bool) → refused_as kind needed t ≡ true
+    read_err u None f is e needed =
         let k : ◌≡◌ {A = Result (Option X) ValueFault} (Err f) (Ok None) = e ∙ ap (given read) is in
         let z : ◌≡◌ {A = ℕ} 0 1 = cc in
         absurd (omega arith)
-    read-err u (Some t) f is e needed = refused-given (Some t) ∙ sym (ap (λ (r : Result (Option X) ValueFault). not (is_ok r)) (e ∙ ap (given read) is))
+    read_err u (Some t) f is e needed = refused_given (Some t) ∙ sym (ap (λ (r : Result (Option X) ValueFault). not (is_ok r)) (e ∙ ap (given read) is))
 
 or_assoc : (a b c : Bool) → ((a || b) || c) ≡ (a || (b || c))
 or_assoc true b c = refl

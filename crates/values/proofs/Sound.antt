@@ -10,7 +10,7 @@ use Rattle.values.specs.Fields.{front, has_field, field_len, field_num, behind, 
 use Rattle.values.specs.Duration.{Field, absent, given, Seconds, whole, pointed, Digits, SoundField, SoundSeconds, field_text, seconds_text, field_value, seconds_value, Duration, begun, is_duration, duration_of}
 use Rattle.values.proofs.Choosing.{and_true, ok_is, fault_is}
 use Rattle.values.proofs.Numbers.{front_digits}
-use Rattle.values.proofs.Ways.{by_whole, by-point, by-none}
+use Rattle.values.proofs.Ways.{by_whole, by_point, by_none}
 
 record Cut (u : ℕ) (xs : List ℕ) : Type 0 where
   field : Field
@@ -98,9 +98,9 @@ cut_seconds xs = ⊎_elim plain (λ le. go (has_decimals xs) refl (omega arith))
         let c = some 46 xs (omega arith) (ltb-true 0 _ f.0) in
         let d = some 83 (behind xs) (omega arith) (ltb-true 0 _ g.0) in
         let r : field_len 83 (behind xs) ≤ 4 = leb-true _ 4 g.1 in
-        let l : seconds_len xs ≡ field_len 46 xs + field_len 83 (behind xs) = by-point xs _ _ z e in
-        let v : seconds_num xs ≡ field_num 46 xs = by-point xs _ _ z e in
-        let m : seconds_millis xs ≡ field_num 83 (behind xs) * 10 ^ (4 - field_len 83 (behind xs)) = by-point xs _ _ z e in
+        let l : seconds_len xs ≡ field_len 46 xs + field_len 83 (behind xs) = by_point xs _ _ z e in
+        let v : seconds_num xs ≡ field_num 46 xs = by_point xs _ _ z e in
+        let m : seconds_millis xs ≡ field_num 83 (behind xs) * 10 ^ (4 - field_len 83 (behind xs)) = by_point xs _ _ z e in
         let q : 4 - field_len 83 (behind xs) ≡ 3 - length d.ds = omega (arith, d.long) in
         let w : field_num 83 (behind xs) * 10 ^ (4 - field_len 83 (behind xs)) ≡ decimal d.ds * 10 ^ (3 - length d.ds) = ap (λ x. x * 10 ^ (4 - field_len 83 (behind xs))) d.value ∙ ap (λ x. decimal d.ds * 10 ^ x) q in
         let o : drop (field_len 83 (behind xs)) (behind xs) ≡ drop (seconds_len xs) xs = drop-drop (field_len 83 (behind xs)) (field_len 46 xs) xs ∙ ap (λ k. drop k xs) (sym l) in
@@ -111,9 +111,9 @@ cut_seconds xs = ⊎_elim plain (λ le. go (has_decimals xs) refl (omega arith))
           value = omega (arith, c.value, w);
         }
     go false e z =
-        let l : seconds_len xs ≡ 0 = by-none xs _ _ z e in
-        let v : seconds_num xs ≡ 0 = by-none xs _ _ z e in
-        let m : seconds_millis xs ≡ 0 = by-none xs _ _ z e in
+        let l : seconds_len xs ≡ 0 = by_none xs _ _ z e in
+        let v : seconds_num xs ≡ 0 = by_none xs _ _ z e in
+        let m : seconds_millis xs ≡ 0 = by_none xs _ _ z e in
         record { seconds = absent; sound = tt; text = ap (λ k. drop k xs) (sym l); value = omega arith }
 
 two : (s : List ℕ) → 2 < length s → s ≡ get_or s 0 0 ∷ (get_or s 1 0 ∷ drop 2 s)

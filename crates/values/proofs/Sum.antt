@@ -35,8 +35,8 @@ module _ (s : List ℕ) (h m e : ℕ) (eh : h ≡ 2 + field_len 72 (drop 2 s)) (
         let l : leb (total (drop 2 s)) 100000000000 ≡ false = lt-leb (total (drop 2 s)) 100000000000 (omega arith) in
         sym (ap (λ t. cond t (Ok (total (drop 2 s))) (Err NoDuration)) (and_false (begun s) _ (and_false (eqb (2 + used (drop 2 s)) (length s)) _ l)))
 
-    pub all-of-it : begun s ≡ true → e ≡ length s → hv * 3600000 + mv * 60000 + (sv * 1000 + ms) ≤ 100000000000 → Ok (hv * 3600000 + mv * 60000 + (sv * 1000 + ms)) ≡ duration_of s
-    all-of-it ok end small =
+    pub all_of_it : begun s ≡ true → e ≡ length s → hv * 3600000 + mv * 60000 + (sv * 1000 + ms) ≤ 100000000000 → Ok (hv * 3600000 + mv * 60000 + (sv * 1000 + ms)) ≡ duration_of s
+    all_of_it ok end small =
         let n = same_numbers in
         let t : hv * 3600000 + mv * 60000 + (sv * 1000 + ms) ≡ total (drop 2 s) = omega arith in
         let l : leb (total (drop 2 s)) 100000000000 ≡ true = le-leb (total (drop 2 s)) 100000000000 (omega arith) in

@@ -23,8 +23,8 @@ module _ (xs : List ℕ) where
     not_whole : by_seconds xs x y ≡ cond (has_decimals xs) y 0
     not_whole = ap (λ t. cond t x (cond (has_decimals xs) y 0)) (le-ltb 0 (field_len 83 xs) (omega arith))
 
-    pub by-point : has_decimals xs ≡ true → by_seconds xs x y ≡ y
-    by-point h = not_whole ∙ ap (λ t. cond t y 0) h
+    pub by_point : has_decimals xs ≡ true → by_seconds xs x y ≡ y
+    by_point h = not_whole ∙ ap (λ t. cond t y 0) h
 
-    pub by-none : has_decimals xs ≡ false → by_seconds xs x y ≡ 0
-    by-none h = not_whole ∙ ap (λ t. cond t y 0) h
+    pub by_none : has_decimals xs ≡ false → by_seconds xs x y ≡ 0
+    by_none h = not_whole ∙ ap (λ t. cond t y 0) h

@@ -2,7 +2,7 @@ use Rattle.std.proofs.Common.{sym, ap, ◌∙◌}
 use Rattle.template.specs.Pieces.{width_text}
 use Rattle.template.specs.Reading.{measured, width_of, closing_text}
 use Rattle.template.proofs.Measured.{measured_some, measured_none}
-use Rattle.template.proofs.Steps.{plain, no-width, no_end, tag-there}
+use Rattle.template.proofs.Steps.{plain, no_width, no_end, tag_there}
 use Rattle.template.proofs.closing.Goals as goal
 
 pub returns-then-begins_at : goal.returns-then-begins_at
@@ -14,7 +14,7 @@ returns-in_err-width c =
     let a = c.byte_at.result in
     let b = c.byte_at-2.result in
     let none = measured_none width_text (width_of a b) c.in_err-width.ensures in
-    let e = no-width c.args.text.now c.args.at (sym c.if-begins_at.ensures) (sym c.if-not-begins_at.ensures)
+    let e = no_width c.args.text.now c.args.at (sym c.if-begins_at.ensures) (sym c.if-not-begins_at.ensures)
     a b c.byte_at.ensures c.byte_at-2.ensures none in
     c.from_residual.ensures ∙ sym (ap (measured closing_text) e)
 
@@ -36,5 +36,5 @@ returns c =
     let w = c.in_ok-width.width in
     let n = c.in_ok-width.digits in
     let width = measured_some width_text (width_of a b) w n c.in_ok-width.ensures in
-    tag-there c.args.text.now c.args.at (sym c.if-begins_at.ensures) (sym c.if-not-begins_at.ensures)
+    tag_there c.args.text.now c.args.at (sym c.if-begins_at.ensures) (sym c.if-not-begins_at.ensures)
     a b c.byte_at.ensures c.byte_at-2.ensures w n width (sym c.if-not-begins_at-2.ensures)

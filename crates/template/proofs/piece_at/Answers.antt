@@ -1,5 +1,5 @@
 use Rattle.std.proofs.Common.{arith}
-use Rattle.template.proofs.Places.{at_end, fits, at_piece, at-break}
+use Rattle.template.proofs.Places.{at_end, fits, at_piece, at_break}
 use Rattle.template.proofs.piece_at.Goals as goal
 
 pub returns-then-at-template : goal.returns-then-at-template
@@ -14,4 +14,4 @@ returns-in-Some c =
     at_piece c.args.template.now c.args.at c.if-at-template.false c.in-Some.piece c.in-Some.long c.in-Some.ensures
 
 pub returns-in-None : goal.returns-in-None
-returns-in-None c = at-break c.args.template.now c.args.at c.if-at-template.false c.in-None.ensures
+returns-in-None c = at_break c.args.template.now c.args.at c.if-at-template.false c.in-None.ensures

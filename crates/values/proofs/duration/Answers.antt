@@ -1,6 +1,6 @@
 -- The fields are all of the text and not too long a time, or it is no duration.
 use Rattle.std.proofs.Common.{sym, ◌∙◌, arith}
-use Rattle.values.proofs.Sum.{not_all, too_large, all-of-it}
+use Rattle.values.proofs.Sum.{not_all, too_large, all_of_it}
 use Rattle.values.proofs.Complete.{complete}
 use Rattle.values.proofs.Sound.{sound}
 use Rattle.values.proofs.duration.Goals as goal
@@ -28,7 +28,7 @@ returns-then-total-gt-LONGEST c =
 pub returns : goal.returns
 returns c =
     let e =
-    all-of-it c.args.text.now c.field-hours.result.end c.field-minutes.result.end c.seconds-rest.result.end c.field-hours.ensures.end c.field-minutes.ensures.end c.seconds-rest.ensures.end
+    all_of_it c.args.text.now c.field-hours.result.end c.field-minutes.result.end c.seconds-rest.result.end c.field-hours.ensures.end c.field-minutes.ensures.end c.seconds-rest.ensures.end
     c.field-hours.result.value c.field-minutes.result.value c.seconds-rest.result.whole c.seconds-rest.result.millis c.field-hours.ensures.value c.field-minutes.ensures.value c.seconds-rest.ensures.whole c.seconds-rest.ensures.millis
     (sym c.begins.ensures ∙ c.if-not-begins.false) c.if-rest-text.false c.if-total-gt-LONGEST.false
     in

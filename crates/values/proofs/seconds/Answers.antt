@@ -1,6 +1,6 @@
 -- The seconds have one to three decimals, or there are none.
 use Rattle.std.proofs.Common.{arith}
-use Rattle.values.proofs.Parts.{nothing, ends, wholes, millis-are}
+use Rattle.values.proofs.Parts.{nothing, ends, wholes, millis_are}
 use Rattle.values.proofs.seconds.Goals as goal
 
 pub returns-then-decimals-point : goal.returns-then-decimals-point
@@ -35,7 +35,7 @@ returns c =
     let h = c.if-point-at.false in
     let k = c.if-decimals-point.false in
     let t = c.if-decimals-point-gt4.false in
-    let m = millis-are s at plain point last a n b d h k t c.field-decimals.result.value c.scaled-millis.result c.field-decimals.ensures.value c.scaled-millis.ensures in
+    let m = millis_are s at plain point last a n b d h k t c.field-decimals.result.value c.scaled-millis.result c.field-decimals.ensures.value c.scaled-millis.ensures in
     record {
       within = omega (arith, c.field-decimals.ensures.within, c.field-point.ensures.within);
       end = ends s at plain point last a n b d h k t;

@@ -1,7 +1,7 @@
 use Rattle.std.proofs.Common.{◌<◌, length, sym, ◌∙◌, arith}
 use Rattle.head.specs.declared.step.Step.{Step}
 use Rattle.head.specs.Sequences.{Output, output_of}
-use Rattle.head.proofs.Replaying.{replays_none, replays-turn, stood-next}
+use Rattle.head.proofs.Replaying.{replays_none, replays_turn, stood_next}
 use Rattle.head.proofs.sequence.replay.Goals as goal
 
 pub loop-i-init : goal.loop-i-init
@@ -31,6 +31,6 @@ loop-i-preserved g c =
     let noted : i < length steps = omega arith in
     let before = c.loop-i.invariant.2 in (
       c.obey-answer.ensures.timescale ∙ c.loop-i.invariant.0,
-      sym c.place.ensures ∙ sym (stood-next xs ok address c.args.timescale calls first o steps i s o₁ o₂ called noted before),
-      replays-turn xs ok address c.args.timescale calls first o steps i s o₁ o₂ called noted before h.timescale h.place c.obey-answer.new.head.place c.loop-i.invariant.0 c.loop-i.invariant.1 c.place.ensures c.obey-answer.ensures.obeys c.obey-answer.ensures.place,
+      sym c.place.ensures ∙ sym (stood_next xs ok address c.args.timescale calls first o steps i s o₁ o₂ called noted before),
+      replays_turn xs ok address c.args.timescale calls first o steps i s o₁ o₂ called noted before h.timescale h.place c.obey-answer.new.head.place c.loop-i.invariant.0 c.loop-i.invariant.1 c.place.ensures c.obey-answer.ensures.obeys c.obey-answer.ensures.place,
     )

@@ -5,7 +5,7 @@ use Rattle.presentation.specs.Lists.{of_bottom}
 use Rattle.tables.specs.Rows.{held}
 use Rattle.timeline.specs.Layers.{shifted, cut_off}
 use Rattle.timeline.specs.Segments.{ended_by}
-use Rattle.player.proofs.Laid.{replays-laid}
+use Rattle.player.proofs.Laid.{replays_laid}
 use Rattle.player.proofs.screening.perform.Goals as goal
 
 pub returns : goal.returns
@@ -17,7 +17,7 @@ returns c =
     record {
       count = c.replay.ensures.count;
       law =
-          replays-laid plan c.rows.result.now (held c.args.runs.now) c.rows.ensures c.requires
+          replays_laid plan c.rows.result.now (held c.args.runs.now) c.rows.ensures c.requires
           (cut_off t.at (shifted t.below.by xs))
           (λ place. address_at t.below.below.parts (of_bottom t.below.below.below) (ended_by xs t.below.by + place))
           laid.list laid.address plan.timescale c.args.calls.now c.args.steps.now c.replay.new.steps

@@ -8,7 +8,7 @@ use Rattle.resolve.specs.Outcome.{first_of, timing, leaving, runs_by, texts_by, 
 use Rattle.resolve.specs.Values.{Texts, Values, values_of, defined_by}
 use Rattle.resolve.specs.declared.fault.ResolveFault.TheVariants.{NoAddress}
 use Rattle.resolve.proofs.Media.{media_whole}
-use Rattle.resolve.proofs.Outcomes.{refused_answer, refused_first, refused_runs, early, untimed, unaddressable, accepted-answer, accepted-first, accepted-runs}
+use Rattle.resolve.proofs.Outcomes.{refused_answer, refused_first, refused_runs, early, untimed, unaddressable, accepted_answer, accepted_first, accepted_runs}
 use Rattle.resolve.proofs.Written.{adds_up}
 use Rattle.resolve.proofs.resolving.resolve.Goals as goal
 
@@ -79,9 +79,9 @@ returns-in-Some c =
     let plan = c.plan_of.result in
     let fit : broken plan.parts.template.now ≡ false = ap (λ (v : Values). broken v.texts.template) c.plan_of.ensures ∙ ap (λ (t : Texts). broken t.template) addressed.1 ∙ media_whole m es xs i j so.0 q.chosen in
     record {
-      answer = accepted-answer m es xs i j rows q so.0 so.1 timed addressed.0 _ (c.plan_of.ensures ∙ ap (values_with q c.in_ok-kind.kind) addressed.1 ∙ ap (λ k. values_with q k (texts_by m es xs q)) c.in_ok-kind.ensures.answer.1);
-      first = accepted-first m es xs i j rows q so.0 so.1 timed addressed.0;
-      runs = accepted-runs m es xs i j rows q so.0 so.1 timed addressed.0 runs (c.give.ensures.runs ∙ ap (λ o. leaving m es xs o (runs_by m es xs q)) c.in_ok-kind.ensures.answer.0);
+      answer = accepted_answer m es xs i j rows q so.0 so.1 timed addressed.0 _ (c.plan_of.ensures ∙ ap (values_with q c.in_ok-kind.kind) addressed.1 ∙ ap (λ k. values_with q k (texts_by m es xs q)) c.in_ok-kind.ensures.answer.1);
+      first = accepted_first m es xs i j rows q so.0 so.1 timed addressed.0;
+      runs = accepted_runs m es xs i j rows q so.0 so.1 timed addressed.0 runs (c.give.ensures.runs ∙ ap (λ o. leaving m es xs o (runs_by m es xs q)) c.in_ok-kind.ensures.answer.0);
       sum = adds_up (values_of plan) runs;
       whole = ap (λ b. unless b (given_by plan.kind plan.first plan.period runs)) fit ∙ subst (λ (v : Values). given_by v.kind v.first v.period runs ≡ defined_by v.kind v.first v.period runs) (sym c.plan_of.ensures) c.in_ok-kind.ensures.whole;
       clean = c.give.ensures.clean;

@@ -3,7 +3,7 @@ use Rattle.std.proofs.lemmas.List.{at_drop_all}
 use Rattle.tree.specs.Laws.{Child}
 use Rattle.tree.specs.Questions.{child_from}
 use Rattle.tree.proofs.Tree.child.Goals as goal
-use Rattle.tree.proofs.Walk.{nowhere_more, child_fits, child-not, child-here, child-more}
+use Rattle.tree.proofs.Walk.{nowhere_more, child_fits, child_not, child_here, child_more}
 
 -- there are no rows behind one that is not there
 pub returns-then-row-elements : goal.returns-then-row-elements
@@ -30,7 +30,7 @@ returns-then-child_is c =
     let within = c.rows-test.true in
     let fits = c.if-child_is.ensures in
     record {
-      row = sym (c.rows.invariant.0 ∙ child-here m e n es i within fits);
+      row = sym (c.rows.invariant.0 ∙ child_here m e n es i within fits);
       first = record { from = omega arith; below = within; here = child_fits m e n es i fits; before = c.rows.invariant.1 };
     }
 
@@ -42,8 +42,8 @@ rows-preserved c =
     let n = c.args.name.now in
     let i = c.rows.later in
     let other = c.if-child_is.ensures in (
-      c.rows.invariant.0 ∙ child-more m e n es i c.rows-test.true other,
-      nowhere_more (Child m e n es) (e + 1) i c.rows.invariant.1 (child-not m e n es i other),
+      c.rows.invariant.0 ∙ child_more m e n es i c.rows-test.true other,
+      nowhere_more (Child m e n es) (e + 1) i c.rows.invariant.1 (child_not m e n es i other),
     )
 
 pub returns : goal.returns

@@ -1,7 +1,7 @@
 use Rattle.std.proofs.Common.{◌&&◌, eqb, leb, length, get_or, sym, ap, ◌∙◌, arith}
 use Rattle.reader.specs.Bytes.{visible}
 use Rattle.reader.specs.Machine.{comment}
-use Rattle.reader.proofs.Lexing.{comment_ends, comment_closed, comment-other, comment-next}
+use Rattle.reader.proofs.Lexing.{comment_ends, comment_closed, comment_other, comment_next}
 use Rattle.reader.proofs.lexer.Reader.comment.Goals as goal
 
 pub returns-then-ends_comment : goal.returns-then-ends_comment
@@ -42,7 +42,7 @@ returns-then-not-is_visible c =
       goes = λ E A d.
           let word = back.goes E A (comment 0 d) in
           let here = i.2 E A d in
-          let other = comment-other n E A p k d (omega (arith, byte.0)) (ap (λ b. leb 2 k && eqb b 62) (sym is) ∙ sym c.if-ends_comment.ensures) (ap visible (sym is) ∙ sym c.if-not-is_visible.ensures) in
+          let other = comment_other n E A p k d (omega (arith, byte.0)) (ap (λ b. leb 2 k && eqb b 62) (sym is) ∙ sym c.if-ends_comment.ensures) (ap visible (sym is) ∙ sym c.if-not-is_visible.ensures) in
           let m = back.src in
           cc;
     }
@@ -61,7 +61,7 @@ loop-b-preserved c =
       omega arith,
       λ E A d.
           let here = i.2 E A d in
-          let on = comment-next n E A p k d (omega (arith, byte.0)) (ap (λ b. leb 2 k && eqb b 62) (sym is) ∙ sym c.if-ends_comment.ensures) (ap visible (sym is) ∙ sym c.if-not-is_visible.ensures) in
+          let on = comment_next n E A p k d (omega (arith, byte.0)) (ap (λ b. leb 2 k && eqb b 62) (sym is) ∙ sym c.if-ends_comment.ensures) (ap visible (sym is) ∙ sym c.if-not-is_visible.ensures) in
           cc,
     )
 

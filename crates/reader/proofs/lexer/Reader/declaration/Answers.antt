@@ -1,7 +1,7 @@
 use Rattle.std.proofs.Common.{false, ◌&&◌, eqb, length, get_or, sym, ap, ◌∙◌, arith}
 use Rattle.reader.specs.Bytes.{ascii}
 use Rattle.reader.specs.Machine.{declaration}
-use Rattle.reader.proofs.Lexing.{declaration_ends, declaration_closed, declaration-other, declaration-next}
+use Rattle.reader.proofs.Lexing.{declaration_ends, declaration_closed, declaration_other, declaration_next}
 use Rattle.reader.proofs.lexer.Reader.declaration.Goals as goal
 
 pub returns-then-ends_declaration : goal.returns-then-ends_declaration
@@ -40,7 +40,7 @@ returns-then-not-is_ascii c =
       goes = λ E A.
           let word = back.goes E A (declaration false) in
           let here = i.1 E A in
-          let other = declaration-other n E A p k (omega (arith, byte.0)) (ap (λ b. k && eqb b 62) (sym is) ∙ sym c.if-ends_declaration.ensures) (ap ascii (sym is) ∙ sym c.if-not-is_ascii.ensures) in
+          let other = declaration_other n E A p k (omega (arith, byte.0)) (ap (λ b. k && eqb b 62) (sym is) ∙ sym c.if-ends_declaration.ensures) (ap ascii (sym is) ∙ sym c.if-not-is_ascii.ensures) in
           let m = back.src in
           cc;
     }
@@ -58,7 +58,7 @@ loop-b-preserved c =
       c.advance-in-Some.ensures.src ∙ i.0,
       λ E A.
           let here = i.1 E A in
-          let on = declaration-next n E A p k (omega (arith, byte.0)) (ap (λ b. k && eqb b 62) (sym is) ∙ sym c.if-ends_declaration.ensures) (ap ascii (sym is) ∙ sym c.if-not-is_ascii.ensures) in
+          let on = declaration_next n E A p k (omega (arith, byte.0)) (ap (λ b. k && eqb b 62) (sym is) ∙ sym c.if-ends_declaration.ensures) (ap ascii (sym is) ∙ sym c.if-not-is_ascii.ensures) in
           cc,
     )
 

@@ -3,7 +3,7 @@ use Rattle.std.proofs.lemmas.Result.{err_from_is_err_and}
 use Rattle.std.specs.List.{prefix_len}
 use Rattle.reader.specs.Bytes.{blank, quotes}
 use Rattle.reader.specs.Machine.{quote}
-use Rattle.reader.proofs.Tags.{to_sign, quote-ends, quote-other, quote-next}
+use Rattle.reader.proofs.Tags.{to_sign, quote_ends, quote_other, quote_next}
 use Rattle.reader.proofs.lexer.Reader.opening.Goals as goal
 
 pub returns-in_err-expect : goal.returns-in_err-expect
@@ -40,7 +40,7 @@ returns-in_default c =
           let first = to_sign m E A d e a c.args.self.now.pos t.new.self.pos t.ensures.pos t.ensures.stops in
           let old = t.ensures.src in
           let word = back.goes E A (quote d e a) in
-          let on = quote-ends m E A d e a at p end stops (omega (arith, c.in_default.ensures)) in
+          let on = quote_ends m E A d e a at p end stops (omega (arith, c.in_default.ensures)) in
           cc;
     }
 
@@ -65,7 +65,7 @@ returns-then-not-is_quote c =
           let first = to_sign m E A d e a c.args.self.now.pos t.new.self.pos t.ensures.pos t.ensures.stops in
           let old = t.ensures.src in
           let word = back.goes E A (quote d e a) in
-          let on = quote-other m E A d e a at p end stops (omega (arith, byte.0)) (ap quotes (sym is) ∙ sym c.if-not-is_quote.ensures) in
+          let on = quote_other m E A d e a at p end stops (omega (arith, byte.0)) (ap quotes (sym is) ∙ sym c.if-not-is_quote.ensures) in
           cc;
     }
 
@@ -91,6 +91,6 @@ returns c =
           let first = to_sign m E A d e a c.args.self.now.pos t.new.self.pos t.ensures.pos t.ensures.stops in
           let old = t.ensures.src in
           let word = back.goes E A (quote d e a) in
-          let on = quote-next m E A d e a at p end stops (omega (arith, byte.0)) (ap quotes (sym is) ∙ sym c.if-not-is_quote.ensures) in
+          let on = quote_next m E A d e a at p end stops (omega (arith, byte.0)) (ap quotes (sym is) ∙ sym c.if-not-is_quote.ensures) in
           cc;
     }

@@ -1,5 +1,5 @@
 use Rattle.std.proofs.Common.{length, get_or, sym, ap, ◌∙◌, arith}
-use Rattle.reader.proofs.Tags.{text-ends, text-done, text-amp, text-other}
+use Rattle.reader.proofs.Tags.{text_ends, text_done, text_amp, text_other}
 use Rattle.reader.proofs.lexer.Reader.text.Goals as goal
 
 pub returns-in_default : goal.returns-in_default
@@ -11,7 +11,7 @@ returns-in_default c =
       src = t.ensures.src;
       further = omega (arith, t.ensures.pos);
       goes = λ E A d e.
-          let on = text-ends c.args.self.now.src.now E A d e c.args.self.now.pos p t.ensures.pos t.ensures.stops (omega (arith, c.in_default.ensures)) in
+          let on = text_ends c.args.self.now.src.now E A d e c.args.self.now.pos p t.ensures.pos t.ensures.stops (omega (arith, c.in_default.ensures)) in
           cc;
     }
 
@@ -26,7 +26,7 @@ returns-then-b-eq60 c =
       src = t.ensures.src;
       further = omega (arith, t.ensures.pos);
       goes = λ E A d e.
-          let on = text-done c.args.self.now.src.now E A d e c.args.self.now.pos p t.ensures.pos t.ensures.stops (omega (arith, byte.0)) (sym is ∙ c.if-b-eq60.true) in
+          let on = text_done c.args.self.now.src.now E A d e c.args.self.now.pos p t.ensures.pos t.ensures.stops (omega (arith, byte.0)) (sym is ∙ c.if-b-eq60.true) in
           cc;
     }
 
@@ -41,7 +41,7 @@ returns-then-b-eq38 c =
       src = t.ensures.src;
       further = omega (arith, t.ensures.pos);
       goes = λ E A d e.
-          let on = text-amp c.args.self.now.src.now E A d e c.args.self.now.pos p t.ensures.pos t.ensures.stops (omega (arith, byte.0)) (λ e. c.if-b-eq60.false (is ∙ e)) (sym is ∙ c.if-b-eq38.true) in
+          let on = text_amp c.args.self.now.src.now E A d e c.args.self.now.pos p t.ensures.pos t.ensures.stops (omega (arith, byte.0)) (λ e. c.if-b-eq60.false (is ∙ e)) (sym is ∙ c.if-b-eq38.true) in
           cc;
     }
 
@@ -56,6 +56,6 @@ returns c =
       src = t.ensures.src;
       further = omega (arith, t.ensures.pos);
       goes = λ E A d e.
-          let on = text-other c.args.self.now.src.now E A d e c.args.self.now.pos p t.ensures.pos t.ensures.stops (omega (arith, byte.0)) (λ e. c.if-b-eq60.false (is ∙ e)) (λ e. c.if-b-eq38.false (is ∙ e)) in
+          let on = text_other c.args.self.now.src.now E A d e c.args.self.now.pos p t.ensures.pos t.ensures.stops (omega (arith, byte.0)) (λ e. c.if-b-eq60.false (is ∙ e)) (λ e. c.if-b-eq38.false (is ∙ e)) in
           cc;
     }

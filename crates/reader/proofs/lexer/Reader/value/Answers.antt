@@ -1,7 +1,7 @@
 use Rattle.std.proofs.Common.{◌≡◌, ◌+◌, ◌<◌, false, length, get_or, drop, sym, ap, ◌∙◌, arith}
 use Rattle.std.specs.List.{prefix_len}
 use Rattle.reader.specs.Bytes.{plain}
-use Rattle.reader.proofs.Tags.{value-ends, value-done, value-amp, value-other}
+use Rattle.reader.proofs.Tags.{value_ends, value_done, value_amp, value_other}
 use Rattle.reader.proofs.lexer.Reader.value.Goals as goal
 
 pub returns-in_default : goal.returns-in_default
@@ -20,7 +20,7 @@ returns-in_default c =
       further = omega (arith, t.ensures.pos, back.further);
       goes = λ E A d e a.
           let first = back.goes E A d e a in
-          let on = value-ends m E A d e a q at p end stops (omega (arith, c.in_default.ensures)) in
+          let on = value_ends m E A d e a q at p end stops (omega (arith, c.in_default.ensures)) in
           cc;
     }
 
@@ -43,7 +43,7 @@ returns-then-b-quote c =
       further = omega (arith, t.ensures.pos, back.further);
       goes = λ E A d e a.
           let first = back.goes E A d e a in
-          let on = value-done m E A d e a q at p end stops (omega (arith, byte.0)) (sym is ∙ c.if-b-quote.true) in
+          let on = value_done m E A d e a q at p end stops (omega (arith, byte.0)) (sym is ∙ c.if-b-quote.true) in
           cc;
     }
 
@@ -65,7 +65,7 @@ returns-then-b-eq38 c =
       further = omega (arith, t.ensures.pos, back.further);
       goes = λ E A d e a.
           let first = back.goes E A d e a in
-          let on = value-amp m E A d e a q at p end stops (omega (arith, byte.0)) (λ e. c.if-b-quote.false (is ∙ e)) (sym is ∙ c.if-b-eq38.true) in
+          let on = value_amp m E A d e a q at p end stops (omega (arith, byte.0)) (λ e. c.if-b-quote.false (is ∙ e)) (sym is ∙ c.if-b-eq38.true) in
           cc;
     }
 
@@ -87,6 +87,6 @@ returns c =
       further = omega (arith, t.ensures.pos, back.further);
       goes = λ E A d e a.
           let first = back.goes E A d e a in
-          let on = value-other m E A d e a q at p end stops (omega (arith, byte.0)) (λ e. c.if-b-quote.false (is ∙ e)) (λ e. c.if-b-eq38.false (is ∙ e)) in
+          let on = value_other m E A d e a q at p end stops (omega (arith, byte.0)) (λ e. c.if-b-quote.false (is ∙ e)) (λ e. c.if-b-eq38.false (is ∙ e)) in
           cc;
     }

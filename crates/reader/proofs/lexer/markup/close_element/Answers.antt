@@ -4,8 +4,8 @@ use Rattle.std.proofs.lemmas.Result.{err_from_is_err_and}
 use Rattle.tables.specs.Rows.{held}
 use Rattle.reader.specs.Bytes.{blank, begins}
 use Rattle.reader.specs.Machine.{document, outside, shut}
-use Rattle.reader.proofs.Names.{names_same, closing-other, closing-on}
-use Rattle.reader.proofs.Outside.{close-ends, close_other, close-name, to_closed}
+use Rattle.reader.proofs.Names.{names_same, closing_other, closing_on}
+use Rattle.reader.proofs.Outside.{close_ends, close_other, close_name, to_closed}
 use Rattle.reader.proofs.lexer.markup.close_element.Goals as goal
 
 pub returns-in_default : goal.returns-in_default
@@ -13,7 +13,7 @@ returns-in_default c = record {
   src = refl;
   further = omega arith;
   goes = λ E A xs.
-      let ends = close-ends c.args.reader.now.src.now E A (document (held c.args.elements.now) xs c.args.nesting.now.inner c.args.nesting.now.depth) c.args.reader.now.pos (omega (arith, c.in_default.ensures)) in
+      let ends = close_ends c.args.reader.now.src.now E A (document (held c.args.elements.now) xs c.args.nesting.now.inner c.args.nesting.now.depth) c.args.reader.now.pos (omega (arith, c.in_default.ensures)) in
       cc;
 }
 
@@ -41,9 +41,9 @@ returns-then-not-same c =
       further = omega (arith, t.ensures.pos);
       goes = λ E A xs.
           let d = document (held c.args.elements.now) xs c.args.nesting.now.inner c.args.nesting.now.depth in
-          let first = close-name m E A d p byte.0 begun in
+          let first = close_name m E A d p byte.0 begun in
           let is = names_same m _ (held c.args.elements.now) _ c.args.nesting.now.inner _ _ _ _ false t.ensures.src c.rows.ensures c.element_at-open.ensures c.part.ensures t.ensures.text c.if-not-same.ensures in
-          let other = closing-other m E A d p end t.ensures.pos t.ensures.stops is in
+          let other = closing_other m E A d p end t.ensures.pos t.ensures.stops is in
           let at = t.ensures.at in
           cc;
     }
@@ -68,9 +68,9 @@ returns-in_err-expect c =
       further = omega (arith, t.ensures.pos, u.ensures.pos, back.further);
       goes = λ E A xs.
           let d = document (held c.args.elements.now) xs c.args.nesting.now.inner c.args.nesting.now.depth in
-          let first = close-name m E A d p byte.0 begun in
+          let first = close_name m E A d p byte.0 begun in
           let is = names_same m _ (held c.args.elements.now) _ c.args.nesting.now.inner _ _ _ _ true t.ensures.src c.rows.ensures c.element_at-open.ensures c.part.ensures t.ensures.text c.if-not-same.ensures in
-          let on = closing-on m E A d p end t.ensures.pos t.ensures.stops is in
+          let on = closing_on m E A d p end t.ensures.pos t.ensures.stops is in
           let blanks = to_closed m E A d end q far stops in
           let word = back.goes E A (outside (shut d)) in
           let bytes = same in
@@ -96,9 +96,9 @@ returns c =
       further = omega (arith, t.ensures.pos, u.ensures.pos, back.further);
       goes = λ E A xs.
           let d = document (held c.args.elements.now) xs c.args.nesting.now.inner c.args.nesting.now.depth in
-          let first = close-name m E A d p byte.0 begun in
+          let first = close_name m E A d p byte.0 begun in
           let is = names_same m _ (held c.args.elements.now) _ c.args.nesting.now.inner _ _ _ _ true t.ensures.src c.rows.ensures c.element_at-open.ensures c.part.ensures t.ensures.text c.if-not-same.ensures in
-          let on = closing-on m E A d p end t.ensures.pos t.ensures.stops is in
+          let on = closing_on m E A d p end t.ensures.pos t.ensures.stops is in
           let blanks = to_closed m E A d end q far stops in
           let word = back.goes E A (outside (shut d)) in
           let bytes = same in

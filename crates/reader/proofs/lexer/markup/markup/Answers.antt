@@ -5,7 +5,7 @@ use Rattle.reader.specs.Bytes.{begins}
 use Rattle.reader.specs.Machine.{document, word, comment, close, outside, inside, rootless}
 use Rattle.reader.proofs.Keeping.{kept_same}
 use Rattle.reader.proofs.Runs.{carry}
-use Rattle.reader.proofs.Outside.{angle-ends, angle-comment, angle-close, angle-stray, angle-other, angle-name}
+use Rattle.reader.proofs.Outside.{angle_ends, angle_comment, angle-close, angle-stray, angle-other, angle-name}
 use Rattle.reader.proofs.lexer.markup.markup.Goals as goal
 
 pub returns-in_default : goal.returns-in_default
@@ -22,7 +22,7 @@ returns-in_default c =
       further = omega arith;
       elements = kept_same c.args.elements.now;
       attributes = kept_same c.args.attributes.now;
-      goes = let ends = angle-ends m E A d p (omega (arith, c.in_default.ensures)) in cc;
+      goes = let ends = angle_ends m E A d p (omega (arith, c.in_default.ensures)) in cc;
     }
 
 pub returns-then-b-eq33 : goal.returns-then-b-eq33
@@ -43,7 +43,7 @@ returns-then-b-eq33 c =
       further = omega (arith, back.further);
       elements = kept_same c.args.elements.now;
       attributes = kept_same c.args.attributes.now;
-      goes = angle-comment m E A d p byte.0 (is ∙ c.if-b-eq33.true)
+      goes = angle_comment m E A d p byte.0 (is ∙ c.if-b-eq33.true)
           ∙ carry m _ E A (word 45 (45 ∷ []) (comment 0 d)) (p + 1) _ c.comment.new.self.pos c.comment.result (λ _. outside d) moved c.advance.ensures.src (back.goes E A d);
     }
 

@@ -3,7 +3,7 @@ use borrow.Author.Tests.{clash}
 use Rattle.std.specs.List.{prefix_len}
 use Rattle.reader.specs.Machine.{passes}
 use Rattle.reader.specs.declared.fault.ReadRefusal.TheVariants.{Ampersand, Grammar}
-use Rattle.reader.proofs.Outside.{outside-done, outside-ends, outside-angle, outside-other}
+use Rattle.reader.proofs.Outside.{outside_done, outside_ends, outside_angle, outside_other}
 use Rattle.reader.proofs.lexer.markup.next_markup.Goals as goal
 
 pub returns-then-is_finished : goal.returns-then-is_finished
@@ -18,7 +18,7 @@ returns-then-is_finished c =
       further = λ e. absurd (clash e);
       goes = λ E A d k rows.
           let far = t.ensures.pos ∙ ap (λ n. at + prefix_len (passes (ltb 0 n)) (drop at m)) (sym k) in
-          outside-done m E A d at p far (omega (arith, c.in_default.ensures)) (ap (λ n. not (ltb 0 n) && not (eqb (length d.elements) 0)) k ∙ ap (λ n. not (ltb 0 c.args.depth) && not (eqb n 0)) rows ∙ sym c.if-is_finished.ensures);
+          outside_done m E A d at p far (omega (arith, c.in_default.ensures)) (ap (λ n. not (ltb 0 n) && not (eqb (length d.elements) 0)) k ∙ ap (λ n. not (ltb 0 c.args.depth) && not (eqb n 0)) rows ∙ sym c.if-is_finished.ensures);
     }
 
 pub returns-in_default : goal.returns-in_default
@@ -33,7 +33,7 @@ returns-in_default c =
       further = omega (arith, t.ensures.pos);
       goes = λ E A d k rows.
           let far = t.ensures.pos ∙ ap (λ n. at + prefix_len (passes (ltb 0 n)) (drop at m)) (sym k) in
-          let ends = outside-ends m E A d at p far (omega (arith, c.in_default.ensures)) (ap (λ n. not (ltb 0 n) && not (eqb (length d.elements) 0)) k ∙ ap (λ n. not (ltb 0 c.args.depth) && not (eqb n 0)) rows ∙ sym c.if-is_finished.ensures) in
+          let ends = outside_ends m E A d at p far (omega (arith, c.in_default.ensures)) (ap (λ n. not (ltb 0 n) && not (eqb (length d.elements) 0)) k ∙ ap (λ n. not (ltb 0 c.args.depth) && not (eqb n 0)) rows ∙ sym c.if-is_finished.ensures) in
           cc;
     }
 
@@ -53,7 +53,7 @@ returns-then-b-eq60 c =
       further = λ _. omega (arith, t.ensures.pos);
       goes = λ E A d k rows.
           let far = t.ensures.pos ∙ ap (λ n. at + prefix_len (passes (ltb 0 n)) (drop at m)) (sym k) in
-          let on = outside-angle m E A d at p far lt (ap (λ n. passes (ltb 0 n) (get_or m p 0)) k ∙ t.ensures.stops lt) (is ∙ c.if-b-eq60.true) in
+          let on = outside_angle m E A d at p far lt (ap (λ n. passes (ltb 0 n) (get_or m p 0)) k ∙ t.ensures.stops lt) (is ∙ c.if-b-eq60.true) in
           cc;
     }
 
@@ -72,7 +72,7 @@ returns c =
       further = omega (arith, t.ensures.pos);
       goes = λ E A d k rows.
           let far = t.ensures.pos ∙ ap (λ n. at + prefix_len (passes (ltb 0 n)) (drop at m)) (sym k) in
-          let other = outside-other m E A d at p far lt (ap (λ n. passes (ltb 0 n) (get_or m p 0)) k ∙ t.ensures.stops lt) (λ y. c.if-b-eq60.false (sym is ∙ y)) in
+          let other = outside_other m E A d at p far lt (ap (λ n. passes (ltb 0 n) (get_or m p 0)) k ∙ t.ensures.stops lt) (λ y. c.if-b-eq60.false (sym is ∙ y)) in
           let why = ap (λ n. cond (ltb 0 n && eqb (get_or m p 0) 38) Ampersand Grammar) k ∙ ap (λ b. cond (ltb 0 c.args.depth && eqb b 38) Ampersand Grammar) is ∙ sym c.stray.ensures in
           cc;
     }

@@ -4,7 +4,7 @@ use Rattle.tables.specs.Rows.{held, capacity}
 use Rattle.tables.specs.Zero.{span}
 use Rattle.reader.specs.Machine.{document}
 use Rattle.reader.proofs.Keeping.{kept_same}
-use Rattle.reader.proofs.Names.{twice_same, attribute-full, attribute-twice, attribute-on}
+use Rattle.reader.proofs.Names.{twice_same, attribute_full, attribute-twice, attribute-on}
 use Rattle.reader.proofs.lexer.markup.read_attribute.Goals as goal
 
 pub returns-then-is_full : goal.returns-then-is_full
@@ -16,7 +16,7 @@ returns-then-is_full c =
       kept = kept_same c.args.attributes.now;
       goes = λ E es o k e row.
           let at = t.ensures.at in
-          let full = attribute-full c.args.reader.now.src.now E (capacity c.args.attributes.now) (document es (held c.args.attributes.now) o k) c.args.reader.now.pos t.new.self.pos t.ensures.pos t.ensures.stops e (sym c.if-is_full.ensures) in
+          let full = attribute_full c.args.reader.now.src.now E (capacity c.args.attributes.now) (document es (held c.args.attributes.now) o k) c.args.reader.now.pos t.new.self.pos t.ensures.pos t.ensures.stops e (sym c.if-is_full.ensures) in
           cc;
     }
 

@@ -5,9 +5,9 @@ use Rattle.tables.specs.Rows.{held, capacity}
 use Rattle.tables.specs.Zero.{span}
 use Rattle.reader.specs.Machine.{document, refused}
 use Rattle.reader.specs.declared.fault.ReadRefusal.TheVariants.{ElementsFull}
-use Rattle.reader.proofs.Elements.{behind-empty, text-refused, behind-text}
+use Rattle.reader.proofs.Elements.{behind_empty, text_refused, behind_text}
 use Rattle.reader.proofs.Keeping.{kept_same}
-use Rattle.reader.proofs.Names.{naming-deep, naming-full, naming-on}
+use Rattle.reader.proofs.Names.{naming_deep, naming_full, naming_on}
 use Rattle.reader.proofs.lexer.markup.read_element.Goals as goal
 
 pub returns-then-nesting-ge-LEVELS : goal.returns-then-nesting-ge-LEVELS
@@ -30,7 +30,7 @@ returns-then-nesting-ge-LEVELS c =
       elements = kept_same c.args.elements.now;
       attributes = kept_same c.args.attributes.now;
       goes =
-          let deep = naming-deep m E A d p end t.ensures.pos t.ensures.stops (le-leb 16 k c.if-nesting-ge-LEVELS.true) in
+          let deep = naming_deep m E A d p end t.ensures.pos t.ensures.stops (le-leb 16 k c.if-nesting-ge-LEVELS.true) in
           cc;
     }
 
@@ -54,7 +54,7 @@ returns-then-is_full c =
       elements = kept_same c.args.elements.now;
       attributes = kept_same c.args.attributes.now;
       goes =
-          naming-full m E A d p end t.ensures.pos t.ensures.stops (lt-leb 16 k c.if-nesting-ge-LEVELS.false) (sym c.if-is_full.ensures)
+          naming_full m E A d p end t.ensures.pos t.ensures.stops (lt-leb 16 k c.if-nesting-ge-LEVELS.false) (sym c.if-is_full.ensures)
           ∙ ap (λ b. refused ElementsFull b) (sym (byte ∙ ap (λ b. b - 1) at));
     }
 
@@ -80,7 +80,7 @@ returns-in_err-empty c =
       elements = kept_same c.args.elements.now;
       attributes = back.kept;
       goes =
-          let on = naming-on m E A d p end t.ensures.pos t.ensures.stops (lt-leb 16 k c.if-nesting-ge-LEVELS.false) (sym c.if-is_full.ensures) in
+          let on = naming_on m E A d p end t.ensures.pos t.ensures.stops (lt-leb 16 k c.if-nesting-ge-LEVELS.false) (sym c.if-is_full.ensures) in
           let bytes = t.ensures.src in
           let len = t.ensures.len in
           let tags = back.goes E es o k (span p (end - p)) (sym c.len-row.ensures) in
@@ -101,7 +101,7 @@ returns-then-empty c =
     let d = document es (held c.args.attributes.now) o k in
     let at = t.ensures.at in
     let byte = c.saturating_sub-byte.ensures in
-    let on = naming-on m E A d p end t.ensures.pos t.ensures.stops (lt-leb 16 k c.if-nesting-ge-LEVELS.false) (sym c.if-is_full.ensures) in
+    let on = naming_on m E A d p end t.ensures.pos t.ensures.stops (lt-leb 16 k c.if-nesting-ge-LEVELS.false) (sym c.if-is_full.ensures) in
     let back = c.in_ok-empty.ensures in
     let xs = held c.rest_of_tag.new.attributes in
     let next = c.rest_of_tag.new.reader.pos in
@@ -114,7 +114,7 @@ returns-then-empty c =
       further = omega (arith, t.ensures.pos, back.further);
       elements = added.elements;
       attributes = back.kept;
-      goes = behind-empty m _ E A d (document es xs o k) e p end next c.in_ok-empty.empty t.ensures.src on tags c.if-empty.true (held c.add.new.elements) (added.answer ∙ ap (λ n. es ++ (record { name = n; parent = o; level = k + 1; text = span 0 0 } ∷ [])) (c.span.ensures ∙ whole));
+      goes = behind_empty m _ E A d (document es xs o k) e p end next c.in_ok-empty.empty t.ensures.src on tags c.if-empty.true (held c.add.new.elements) (added.answer ∙ ap (λ n. es ++ (record { name = n; parent = o; level = k + 1; text = span 0 0 } ∷ [])) (c.span.ensures ∙ whole));
     }
 
 pub returns-in_err-text : goal.returns-in_err-text
@@ -131,7 +131,7 @@ returns-in_err-text c =
     let d = document es (held c.args.attributes.now) o k in
     let at = t.ensures.at in
     let byte = c.saturating_sub-byte.ensures in
-    let on = naming-on m E A d p end t.ensures.pos t.ensures.stops (lt-leb 16 k c.if-nesting-ge-LEVELS.false) (sym c.if-is_full.ensures) in
+    let on = naming_on m E A d p end t.ensures.pos t.ensures.stops (lt-leb 16 k c.if-nesting-ge-LEVELS.false) (sym c.if-is_full.ensures) in
     let back = c.in_ok-empty.ensures in
     let xs = held c.rest_of_tag.new.attributes in
     let next = c.rest_of_tag.new.reader.pos in
@@ -145,7 +145,7 @@ returns-in_err-text c =
       further = omega (arith, t.ensures.pos, back.further, words.further);
       elements = kept_same c.args.elements.now;
       attributes = back.kept;
-      goes = text-refused m _ E A d (document es xs o k) e p end next c.in_ok-empty.empty t.ensures.src on tags c.if-empty.false _ (back.src ∙ t.ensures.src) _ (words.goes E A (document es xs o k) e);
+      goes = text_refused m _ E A d (document es xs o k) e p end next c.in_ok-empty.empty t.ensures.src on tags c.if-empty.false _ (back.src ∙ t.ensures.src) _ (words.goes E A (document es xs o k) e);
     }
 
 pub returns : goal.returns
@@ -162,7 +162,7 @@ returns c =
     let d = document es (held c.args.attributes.now) o k in
     let at = t.ensures.at in
     let byte = c.saturating_sub-byte.ensures in
-    let on = naming-on m E A d p end t.ensures.pos t.ensures.stops (lt-leb 16 k c.if-nesting-ge-LEVELS.false) (sym c.if-is_full.ensures) in
+    let on = naming_on m E A d p end t.ensures.pos t.ensures.stops (lt-leb 16 k c.if-nesting-ge-LEVELS.false) (sym c.if-is_full.ensures) in
     let back = c.in_ok-empty.ensures in
     let xs = held c.rest_of_tag.new.attributes in
     let next = c.rest_of_tag.new.reader.pos in
@@ -177,5 +177,5 @@ returns c =
       further = omega (arith, t.ensures.pos, back.further, words.further);
       elements = added.elements;
       attributes = back.kept;
-      goes = behind-text m _ E A d (document es xs o k) e p end next c.in_ok-empty.empty t.ensures.src on tags c.if-empty.false _ (back.src ∙ t.ensures.src) s c.text.new.self.pos (words.goes E A (document es xs o k) e) (held c.add-2.new.elements) (added.answer ∙ ap (λ n. es ++ (record { name = n; parent = o; level = k + 1; text = c.span-words.result } ∷ [])) (c.span-2.ensures ∙ whole) ∙ ap (λ n. es ++ (record { name = e; parent = o; level = k + 1; text = n } ∷ [])) c.span-words.ensures) c.len-row.result c.len-row.ensures;
+      goes = behind_text m _ E A d (document es xs o k) e p end next c.in_ok-empty.empty t.ensures.src on tags c.if-empty.false _ (back.src ∙ t.ensures.src) s c.text.new.self.pos (words.goes E A (document es xs o k) e) (held c.add-2.new.elements) (added.answer ∙ ap (λ n. es ++ (record { name = n; parent = o; level = k + 1; text = c.span-words.result } ∷ [])) (c.span-2.ensures ∙ whole) ∙ ap (λ n. es ++ (record { name = e; parent = o; level = k + 1; text = n } ∷ [])) c.span-words.ensures) c.len-row.result c.len-row.ensures;
     }

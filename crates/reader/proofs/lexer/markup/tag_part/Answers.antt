@@ -5,7 +5,7 @@ use Rattle.tables.specs.Rows.{held, capacity}
 use Rattle.reader.specs.Bytes.{begins}
 use Rattle.reader.specs.Machine.{document, outside, emptied}
 use Rattle.reader.proofs.Keeping.{kept_same}
-use Rattle.reader.proofs.Tags.{to_tag, tag-ends, tag_open, tag-slash, tag-other, tag-attribute}
+use Rattle.reader.proofs.Tags.{to_tag, tag_ends, tag_open, tag-slash, tag-other, tag-attribute}
 use Rattle.reader.proofs.lexer.markup.tag_part.Goals as goal
 
 pub returns-in_default : goal.returns-in_default
@@ -23,7 +23,7 @@ returns-in_default c =
       goes = λ E es o k e row.
           let d = document es (held c.args.attributes.now) o k in
           let first = to_tag m E room d e at p t.ensures.pos in
-          let ends = tag-ends m E room d e (ltb 0 (p - at)) p (omega (arith, c.in_default.ensures)) in
+          let ends = tag_ends m E room d e (ltb 0 (p - at)) p (omega (arith, c.in_default.ensures)) in
           cc;
     }
 

@@ -1,8 +1,8 @@
 use Rattle.std.proofs.Common.{◌≡◌, ◌+◌, ap, arith}
 use Rattle.timeline.specs.Segments.{ended_by, within_of}
 use Rattle.timeline.specs.Layers.{shifted}
-use Rattle.timeline.proofs.Layered.{within_none, within-shifted}
-use Rattle.timeline.proofs.Following.{places-shifted}
+use Rattle.timeline.proofs.Layered.{within_none, within_shifted}
+use Rattle.timeline.proofs.Following.{places_shifted}
 use Rattle.timeline.proofs.Writes.{moved, refused}
 use Rattle.timeline.proofs.addressed.ShiftAddressed.write_address_within.Goals as goal
 
@@ -27,6 +27,6 @@ returns g c =
     let a = c.saturating_add-first.result in
     let b = c.saturating_add-last.result in
     let address = g.T.Addressed.address s.below in
-    let same = within-shifted xs ok s.by from a c.saturating_add-first.ensures to b c.saturating_add-last.ensures (omega arith) in
+    let same = within_shifted xs ok s.by from a c.saturating_add-first.ensures to b c.saturating_add-last.ensures (omega arith) in
     moved (within_of xs a b) (within_of ys from to) n n (address (ended_by xs a + n)) (address (ended_by xs s.by + (ended_by ys from + n))) c.args.bytes.now c.write_address_within.new.bytes c.args.mark.now.used c.write_address_within.new.mark.used c.write_address_within.result
-    (λ h. omega arith) (λ h. omega arith) (λ _. ap address (places-shifted xs ok s.by from a c.saturating_add-first.ensures n)) c.write_address_within.ensures
+    (λ h. omega arith) (λ h. omega arith) (λ _. ap address (places_shifted xs ok s.by from a c.saturating_add-first.ensures n)) c.write_address_within.ensures
