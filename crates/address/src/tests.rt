@@ -1,7 +1,8 @@
 // Tables of expansions, addresses and outputs.
 use super::*;
+use std::process::Abort;
 
-fn expands_to(rt: &HostRuntime, template: &[u8], number: u64, text: &[u8]) {
+fn expands_to(rt: &impl Abort, template: &[u8], number: u64, text: &[u8]) {
     let mut bytes = [0u8; 32];
     let mut mark = Mark { used: 0 };
     let answer = put_expanded(
@@ -43,7 +44,7 @@ fn base(text: &[u8]) -> Option<&[u8]> {
 #[derive(Clone, Copy)]
 struct AddressCase<'a>([&'a [u8]; 4], &'a [u8], &'a [u8]);
 
-fn joins_to(rt: &HostRuntime, case: AddressCase) {
+fn joins_to(rt: &impl Abort, case: AddressCase) {
     let parts = Parts {
         mpd: base(case.0[0]),
         period: base(case.0[1]),
@@ -105,7 +106,7 @@ fn addresses(rt: HostRuntime) {
 
 // The answer, the mark and the bytes of an address of five bytes.
 fn fits(
-    rt: &HostRuntime,
+    rt: &impl Abort,
     size: usize,
     used: usize,
     answer: Result<(), ExpandFault>,

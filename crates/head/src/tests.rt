@@ -3,6 +3,7 @@ ghost use Rattle.std.specs.Prelude.{◌+◌, ◌%◌, [], ◌∷◌};
 
 use super::*;
 use output::{Mark, put};
+use std::process::Abort;
 use timeline::{AddressFault, Addressed, Cut, Even, NoSuchPlace, Run, Segment, Timeline, Written};
 
 // The timeline below, where the address of a place is its last decimal digit.
@@ -92,7 +93,7 @@ fn long(rt: HostRuntime) {
     assert_eq!(rt; head.seek(&long, 2_147_483_647), Err(HeadFault::NoneCovers));
 }
 
-fn noted(rt: &HostRuntime, step: Step, answer: Result<(), HeadFault>, place: Option<u32>) {
+fn noted(rt: &impl Abort, step: Step, answer: Result<(), HeadFault>, place: Option<u32>) {
     assert_eq!(rt; step.answer, answer);
     assert_eq!(rt; step.place, place);
 }

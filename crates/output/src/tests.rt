@@ -4,6 +4,7 @@ ghost use Rattle.output.specs.Digits.{padded};
 ghost use Rattle.output.specs.Text.{Puts};
 
 use super::*;
+use std::process::Abort;
 
 // A count with words before it and the end of the line behind it.
 fn line(bytes: &mut [u8], mark: &mut Mark, n: u64) -> Result<(), NoRoom>
@@ -18,7 +19,7 @@ fn line(bytes: &mut [u8], mark: &mut Mark, n: u64) -> Result<(), NoRoom>
 }
 
 fn put_case(
-    rt: &HostRuntime,
+    rt: &impl Abort,
     used: usize,
     text: &[u8],
     answer: Result<(), NoRoom>,
@@ -46,7 +47,7 @@ fn texts(rt: HostRuntime) {
     put_case(&rt, 9, b"a", Err(NoRoom), 9, *b"....");
 }
 
-fn number_case(rt: &HostRuntime, n: u64, width: u8, text: &[u8]) {
+fn number_case(rt: &impl Abort, n: u64, width: u8, text: &[u8]) {
     let mut bytes = [0u8; 20];
     let mut out = Output::new(&mut bytes);
     assert_eq!(rt; out.write_number(n, width), Ok(()));

@@ -3,6 +3,7 @@ ghost use Rattle.std.specs.Prelude.{◌+◌, ◌%◌, [], ◌∷◌};
 
 use super::*;
 use output::{Mark, put};
+use std::process::Abort;
 use std::test::Fail;
 
 // The address of a place is its last decimal digit.
@@ -42,7 +43,7 @@ fn run(start: u64, length: u64, count: u32) -> Run {
     }
 }
 
-fn tells<T: Timeline>(rt: &HostRuntime, timeline: &T, list: &[Segment]) {
+fn tells<T: Timeline>(rt: &impl Abort, timeline: &T, list: &[Segment]) {
     let mut place = 0u32;
     for segment in list {
         assert_eq!(rt; timeline.segment(place), Ok(*segment));
@@ -53,7 +54,7 @@ fn tells<T: Timeline>(rt: &HostRuntime, timeline: &T, list: &[Segment]) {
     assert_eq!(rt; timeline.segment(u32::MAX), Err(NoSuchPlace));
 }
 
-fn writes(rt: &HostRuntime, first: u32, runs: &[Run], list: &[Segment]) {
+fn writes(rt: &impl Abort, first: u32, runs: &[Run], list: &[Segment]) {
     tells(rt, &Written::new(first, runs), list);
 }
 
