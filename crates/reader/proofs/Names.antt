@@ -45,11 +45,11 @@ module _ (m : List ℕ) (E A : ℕ) where
       attribute_full f = to_attribute ∙ meets (attribute d e p) AttributesFull p end (λ lt. cond-false _ _ _ (stops lt) ∙ cond-true _ _ _ f) (cond-true _ _ _ f)
 
       module _ (f : leb A (length d.attributes) ≡ false) where
-        pub attribute-twice : twice m (length d.elements) (take (end - p) (drop p m)) d.attributes ≡ true → from m E A (attribute d e p) p ≡ refused AttributeTwice p
-        attribute-twice t = to_attribute ∙ meets (attribute d e p) AttributeTwice p end (λ lt. cond-false _ _ _ (stops lt) ∙ cond-false _ _ _ f ∙ cond-true _ _ _ t) (cond-false _ _ _ f ∙ cond-true _ _ _ t)
+        pub attribute_twice : twice m (length d.elements) (take (end - p) (drop p m)) d.attributes ≡ true → from m E A (attribute d e p) p ≡ refused AttributeTwice p
+        attribute_twice t = to_attribute ∙ meets (attribute d e p) AttributeTwice p end (λ lt. cond-false _ _ _ (stops lt) ∙ cond-false _ _ _ f ∙ cond-true _ _ _ t) (cond-false _ _ _ f ∙ cond-true _ _ _ t)
 
-        pub attribute-on : twice m (length d.elements) (take (end - p) (drop p m)) d.attributes ≡ false → from m E A (attribute d e p) p ≡ from m E A (sign d e (span p (end - p))) end
-        attribute-on t = to_attribute ∙ from_same m E A (attribute d e p) (sign d e (span p (end - p))) end (λ lt. cond-false _ _ _ (stops lt) ∙ cond-false _ _ _ f ∙ cond-false _ _ _ t) (cond-false _ _ _ f ∙ cond-false _ _ _ t)
+        pub attribute_on : twice m (length d.elements) (take (end - p) (drop p m)) d.attributes ≡ false → from m E A (attribute d e p) p ≡ from m E A (sign d e (span p (end - p))) end
+        attribute_on t = to_attribute ∙ from_same m E A (attribute d e p) (sign d e (span p (end - p))) end (λ lt. cond-false _ _ _ (stops lt) ∙ cond-false _ _ _ f ∙ cond-false _ _ _ t) (cond-false _ _ _ f ∙ cond-false _ _ _ t)
 
     -- the name of a start tag
     to_naming : from m E A (naming d p) p ≡ from m E A (naming d p) end

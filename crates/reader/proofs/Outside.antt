@@ -45,18 +45,18 @@ module _ (m : List ℕ) (E A : ℕ) (d : Document) where
       angle_comment y = from_to m E A (angle d) (word 45 (45 ∷ []) (comment 0 d)) at h (cond-true _ _ _ (eq-eqb _ 33 y))
 
       module _ (n : get_or m at 0 ≡ 33 → ⊥) where
-        pub angle-close : get_or m at 0 ≡ 47 → inside d ≡ true → from m E A (angle d) at ≡ from m E A (close d) (at + 1)
-        angle-close y i = from_to m E A (angle d) (close d) at h (cond-false _ _ _ (ne_eqb _ 33 n) ∙ cond-true _ _ _ (eq-eqb _ 47 y) ∙ cond-true _ _ _ i)
+        pub angle_close : get_or m at 0 ≡ 47 → inside d ≡ true → from m E A (angle d) at ≡ from m E A (close d) (at + 1)
+        angle_close y i = from_to m E A (angle d) (close d) at h (cond-false _ _ _ (ne_eqb _ 33 n) ∙ cond-true _ _ _ (eq-eqb _ 47 y) ∙ cond-true _ _ _ i)
 
-        pub angle-stray : get_or m at 0 ≡ 47 → inside d ≡ false → from m E A (angle d) at ≡ refused Grammar at
-        angle-stray y i = to_wrong m E A (angle d) Grammar at at h (cond-false _ _ _ (ne_eqb _ 33 n) ∙ cond-true _ _ _ (eq-eqb _ 47 y) ∙ cond-false _ _ _ i)
+        pub angle_stray : get_or m at 0 ≡ 47 → inside d ≡ false → from m E A (angle d) at ≡ refused Grammar at
+        angle_stray y i = to_wrong m E A (angle d) Grammar at at h (cond-false _ _ _ (ne_eqb _ 33 n) ∙ cond-true _ _ _ (eq-eqb _ 47 y) ∙ cond-false _ _ _ i)
 
         module _ (k : get_or m at 0 ≡ 47 → ⊥) where
-          pub angle-other : (begins (get_or m at 0) && (inside d || rootless d)) ≡ false → from m E A (angle d) at ≡ refused Grammar at
-          angle-other f = to_wrong m E A (angle d) Grammar at at h (cond-false _ _ _ (ne_eqb _ 33 n) ∙ cond-false _ _ _ (ne_eqb _ 47 k) ∙ cond-false _ _ _ f)
+          pub angle_other : (begins (get_or m at 0) && (inside d || rootless d)) ≡ false → from m E A (angle d) at ≡ refused Grammar at
+          angle_other f = to_wrong m E A (angle d) Grammar at at h (cond-false _ _ _ (ne_eqb _ 33 n) ∙ cond-false _ _ _ (ne_eqb _ 47 k) ∙ cond-false _ _ _ f)
 
-          pub angle-name : begins (get_or m at 0) ≡ true → (inside d || rootless d) ≡ true → from m E A (angle d) at ≡ from m E A (naming d at) at
-          angle-name y f =
+          pub angle_name : begins (get_or m at 0) ≡ true → (inside d || rootless d) ≡ true → from m E A (angle d) at ≡ from m E A (naming d at) at
+          angle_name y f =
               from_to m E A (angle d) (naming d at) at h (cond-false _ _ _ (ne_eqb _ 33 n) ∙ cond-false _ _ _ (ne_eqb _ 47 k) ∙ cond-true _ _ _ (and_from _ _ y f))
               ∙ sym (from_to m E A (naming d at) (naming d at) at h (cond-true _ _ _ (goes_on (get_or m at 0) y)))
 

@@ -76,21 +76,21 @@ module _ (m : List ℕ) (E A : ℕ) where
       tag_open y = from_to m E A (tag d e gap) (text d e (at + 1)) at h (cond-false _ _ _ nb ∙ cond-true _ _ _ (eq-eqb _ 62 y))
 
       module _ (n : get_or m at 0 ≡ 62 → ⊥) where
-        pub tag-slash : get_or m at 0 ≡ 47 → from m E A (tag d e gap) at ≡ from m E A (word 62 [] (outside (emptied d e))) (at + 1)
-        tag-slash y =
+        pub tag_slash : get_or m at 0 ≡ 47 → from m E A (tag d e gap) at ≡ from m E A (word 62 [] (outside (emptied d e))) (at + 1)
+        tag_slash y =
             from_to m E A (tag d e gap) (slash d e) at h (cond-false _ _ _ nb ∙ cond-false _ _ _ (ne_eqb _ 62 n) ∙ cond-true _ _ _ (eq-eqb _ 47 y))
             ∙ from_same m E A (slash d e) (word 62 [] (outside (emptied d e))) (at + 1) (λ lt. refl) refl
 
         module _ (k : get_or m at 0 ≡ 47 → ⊥) where
-          tag-last : step m E A (tag d e gap) at (get_or m at 0) ≡ cond (gap && begins (get_or m at 0)) (attribute d e at) (wrong Grammar at)
-          tag-last = cond-false _ _ _ nb ∙ cond-false _ _ _ (ne_eqb _ 62 n) ∙ cond-false _ _ _ (ne_eqb _ 47 k)
+          tag_last : step m E A (tag d e gap) at (get_or m at 0) ≡ cond (gap && begins (get_or m at 0)) (attribute d e at) (wrong Grammar at)
+          tag_last = cond-false _ _ _ nb ∙ cond-false _ _ _ (ne_eqb _ 62 n) ∙ cond-false _ _ _ (ne_eqb _ 47 k)
 
-          pub tag-other : (gap && begins (get_or m at 0)) ≡ false → from m E A (tag d e gap) at ≡ refused Grammar at
-          tag-other f = to_wrong m E A (tag d e gap) Grammar at at h (tag-last ∙ cond-false _ _ _ f)
+          pub tag_other : (gap && begins (get_or m at 0)) ≡ false → from m E A (tag d e gap) at ≡ refused Grammar at
+          tag_other f = to_wrong m E A (tag d e gap) Grammar at at h (tag_last ∙ cond-false _ _ _ f)
 
-          pub tag-attribute : (gap && begins (get_or m at 0)) ≡ true → begins (get_or m at 0) ≡ true → from m E A (tag d e gap) at ≡ from m E A (attribute d e at) at
-          tag-attribute f y =
-              from_to m E A (tag d e gap) (attribute d e at) at h (tag-last ∙ cond-true _ _ _ f)
+          pub tag_attribute : (gap && begins (get_or m at 0)) ≡ true → begins (get_or m at 0) ≡ true → from m E A (tag d e gap) at ≡ from m E A (attribute d e at) at
+          tag_attribute f y =
+              from_to m E A (tag d e gap) (attribute d e at) at h (tag_last ∙ cond-true _ _ _ f)
               ∙ sym (from_to m E A (attribute d e at) (attribute d e at) at h (cond-true _ _ _ (goes_on (get_or m at 0) y)))
 
   -- the bytes of a value

@@ -5,7 +5,7 @@ use Rattle.reader.specs.Bytes.{begins}
 use Rattle.reader.specs.Machine.{document, word, comment, close, outside, inside, rootless}
 use Rattle.reader.proofs.Keeping.{kept_same}
 use Rattle.reader.proofs.Runs.{carry}
-use Rattle.reader.proofs.Outside.{angle_ends, angle_comment, angle-close, angle-stray, angle-other, angle-name}
+use Rattle.reader.proofs.Outside.{angle_ends, angle_comment, angle_close, angle_stray, angle_other, angle_name}
 use Rattle.reader.proofs.lexer.markup.markup.Goals as goal
 
 pub returns-in_default : goal.returns-in_default
@@ -63,7 +63,7 @@ returns-then-nesting-eq0 c =
       further = omega arith;
       elements = kept_same c.args.elements.now;
       attributes = kept_same c.args.attributes.now;
-      goes = let other = angle-stray m E A d p byte.0 (λ y. c.if-b-eq33.false (sym is ∙ y)) (is ∙ c.if-b-eq47.true) (le-ltb 0 c.args.nesting.now.depth (omega (arith, c.if-nesting-eq0.true))) in cc;
+      goes = let other = angle_stray m E A d p byte.0 (λ y. c.if-b-eq33.false (sym is ∙ y)) (is ∙ c.if-b-eq47.true) (le-ltb 0 c.args.nesting.now.depth (omega (arith, c.if-nesting-eq0.true))) in cc;
     }
 
 pub returns-then-b-eq47 : goal.returns-then-b-eq47
@@ -85,7 +85,7 @@ returns-then-b-eq47 c =
       further = omega (arith, back.further);
       elements = kept_same c.args.elements.now;
       attributes = kept_same c.args.attributes.now;
-      goes = angle-close m E A d p byte.0 (λ y. c.if-b-eq33.false (sym is ∙ y)) (is ∙ c.if-b-eq47.true) (lt-ltb 0 c.args.nesting.now.depth (omega (arith, c.if-nesting-eq0.false)))
+      goes = angle_close m E A d p byte.0 (λ y. c.if-b-eq33.false (sym is ∙ y)) (is ∙ c.if-b-eq47.true) (lt-ltb 0 c.args.nesting.now.depth (omega (arith, c.if-nesting-eq0.false)))
           ∙ carry m _ E A (close d) (p + 1) _ c.close_element.new.reader.pos c.close_element.result (λ _. outside (document es xs c.close_element.new.nesting.inner c.close_element.new.nesting.depth)) moved moves.src (back.goes E A xs);
     }
 
@@ -106,7 +106,7 @@ returns-then-not-is_first c =
       further = omega arith;
       elements = kept_same c.args.elements.now;
       attributes = kept_same c.args.attributes.now;
-      goes = let other = angle-other m E A d p byte.0 (λ y. c.if-b-eq33.false (sym is ∙ y)) (λ y. c.if-b-eq47.false (sym is ∙ y)) (and_left (begins (get_or m p 0)) (inside d || rootless d) begun) in cc;
+      goes = let other = angle_other m E A d p byte.0 (λ y. c.if-b-eq33.false (sym is ∙ y)) (λ y. c.if-b-eq47.false (sym is ∙ y)) (and_left (begins (get_or m p 0)) (inside d || rootless d) begun) in cc;
     }
 
 pub returns-then-not-may_begin : goal.returns-then-not-may_begin
@@ -126,7 +126,7 @@ returns-then-not-may_begin c =
       further = omega arith;
       elements = kept_same c.args.elements.now;
       attributes = kept_same c.args.attributes.now;
-      goes = let other = angle-other m E A d p byte.0 (λ y. c.if-b-eq33.false (sym is ∙ y)) (λ y. c.if-b-eq47.false (sym is ∙ y)) (and_right (begins (get_or m p 0)) (inside d || rootless d) may) in cc;
+      goes = let other = angle_other m E A d p byte.0 (λ y. c.if-b-eq33.false (sym is ∙ y)) (λ y. c.if-b-eq47.false (sym is ∙ y)) (and_right (begins (get_or m p 0)) (inside d || rootless d) may) in cc;
     }
 
 pub returns : goal.returns
@@ -148,5 +148,5 @@ returns c =
       further = back.further;
       elements = back.elements;
       attributes = back.attributes;
-      goes = angle-name m E A d p byte.0 (λ y. c.if-b-eq33.false (sym is ∙ y)) (λ y. c.if-b-eq47.false (sym is ∙ y)) begun may ∙ back.goes;
+      goes = angle_name m E A d p byte.0 (λ y. c.if-b-eq33.false (sym is ∙ y)) (λ y. c.if-b-eq47.false (sym is ∙ y)) begun may ∙ back.goes;
     }

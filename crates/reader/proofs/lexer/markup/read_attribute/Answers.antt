@@ -4,7 +4,7 @@ use Rattle.tables.specs.Rows.{held, capacity}
 use Rattle.tables.specs.Zero.{span}
 use Rattle.reader.specs.Machine.{document}
 use Rattle.reader.proofs.Keeping.{kept_same}
-use Rattle.reader.proofs.Names.{twice_same, attribute_full, attribute-twice, attribute-on}
+use Rattle.reader.proofs.Names.{twice_same, attribute_full, attribute_twice, attribute_on}
 use Rattle.reader.proofs.lexer.markup.read_attribute.Goals as goal
 
 pub returns-then-is_full : goal.returns-then-is_full
@@ -31,7 +31,7 @@ returns-then-is_twice c =
       goes = λ E es o k e row.
           let at = t.ensures.at in
           let is = twice_same m _ _ _ (length es) _ (held c.args.attributes.now) _ true t.ensures.src t.ensures.text row c.rows.ensures c.if-is_twice.ensures in
-          let two = attribute-twice m E (capacity c.args.attributes.now) (document es (held c.args.attributes.now) o k) c.args.reader.now.pos t.new.self.pos t.ensures.pos t.ensures.stops e (sym c.if-is_full.ensures) is in
+          let two = attribute_twice m E (capacity c.args.attributes.now) (document es (held c.args.attributes.now) o k) c.args.reader.now.pos t.new.self.pos t.ensures.pos t.ensures.stops e (sym c.if-is_full.ensures) is in
           cc;
     }
 
@@ -47,7 +47,7 @@ returns-in_err-value c =
       kept = kept_same c.args.attributes.now;
       goes = λ E es o k e row.
           let is = twice_same m _ _ _ (length es) _ (held c.args.attributes.now) _ false t.ensures.src t.ensures.text row c.rows.ensures c.if-is_twice.ensures in
-          let on = attribute-on m E (capacity c.args.attributes.now) (document es (held c.args.attributes.now) o k) c.args.reader.now.pos t.new.self.pos t.ensures.pos t.ensures.stops e (sym c.if-is_full.ensures) is in
+          let on = attribute_on m E (capacity c.args.attributes.now) (document es (held c.args.attributes.now) o k) c.args.reader.now.pos t.new.self.pos t.ensures.pos t.ensures.stops e (sym c.if-is_full.ensures) is in
           let value = back.goes E (capacity c.args.attributes.now) (document es (held c.args.attributes.now) o k) e (span c.args.reader.now.pos (t.new.self.pos - c.args.reader.now.pos)) in
           let same = t.ensures.src in
           cc;
@@ -65,7 +65,7 @@ returns-in-Ok c =
       kept = record { capacity = pushed.capacity; lent = pushed.lent; clean = pushed.clean };
       goes = λ E es o k e row.
           let is = twice_same m _ _ _ (length es) _ (held c.args.attributes.now) _ false t.ensures.src t.ensures.text row c.rows.ensures c.if-is_twice.ensures in
-          let on = attribute-on m E (capacity c.args.attributes.now) (document es (held c.args.attributes.now) o k) c.args.reader.now.pos t.new.self.pos t.ensures.pos t.ensures.stops e (sym c.if-is_full.ensures) is in
+          let on = attribute_on m E (capacity c.args.attributes.now) (document es (held c.args.attributes.now) o k) c.args.reader.now.pos t.new.self.pos t.ensures.pos t.ensures.stops e (sym c.if-is_full.ensures) is in
           let value = back.goes E (capacity c.args.attributes.now) (document es (held c.args.attributes.now) o k) e (span c.args.reader.now.pos (t.new.self.pos - c.args.reader.now.pos)) in
           let same = t.ensures.src in
           let rows = pushed.answer.1 in

@@ -5,7 +5,7 @@ use Rattle.tables.specs.Rows.{held, capacity}
 use Rattle.reader.specs.Bytes.{begins}
 use Rattle.reader.specs.Machine.{document, outside, emptied}
 use Rattle.reader.proofs.Keeping.{kept_same}
-use Rattle.reader.proofs.Tags.{to_tag, tag_ends, tag_open, tag-slash, tag-other, tag-attribute}
+use Rattle.reader.proofs.Tags.{to_tag, tag_ends, tag_open, tag_slash, tag_other, tag_attribute}
 use Rattle.reader.proofs.lexer.markup.tag_part.Goals as goal
 
 pub returns-in_default : goal.returns-in_default
@@ -72,7 +72,7 @@ returns-in_err-expect c =
       goes = λ E es o k e row.
           let d = document es (held c.args.attributes.now) o k in
           let first = to_tag m E room d e at p t.ensures.pos in
-          let on = tag-slash m E room d e (ltb 0 (p - at)) p lt (t.ensures.stops lt) (λ y. c.if-b-eq62.false (is ∙ y)) (sym is ∙ c.if-b-eq47.true) in
+          let on = tag_slash m E room d e (ltb 0 (p - at)) p lt (t.ensures.stops lt) (λ y. c.if-b-eq62.false (is ∙ y)) (sym is ∙ c.if-b-eq47.true) in
           let same = moves.src ∙ t.ensures.src in
           let word = back.goes E room (outside (emptied d e)) in
           cc;
@@ -99,7 +99,7 @@ returns-then-b-eq47 c =
       goes = λ E es o k e row.
           let d = document es (held c.args.attributes.now) o k in
           let first = to_tag m E room d e at p t.ensures.pos in
-          let on = tag-slash m E room d e (ltb 0 (p - at)) p lt (t.ensures.stops lt) (λ y. c.if-b-eq62.false (is ∙ y)) (sym is ∙ c.if-b-eq47.true) in
+          let on = tag_slash m E room d e (ltb 0 (p - at)) p lt (t.ensures.stops lt) (λ y. c.if-b-eq62.false (is ∙ y)) (sym is ∙ c.if-b-eq47.true) in
           let same = moves.src ∙ t.ensures.src in
           let word = back.goes E room (outside (emptied d e)) in
           cc;
@@ -123,7 +123,7 @@ returns-then-gap-eq0 c =
       goes = λ E es o k e row.
           let d = document es (held c.args.attributes.now) o k in
           let first = to_tag m E room d e at p t.ensures.pos in
-          let on = tag-other m E room d e (ltb 0 (p - at)) p lt (t.ensures.stops lt) (λ y. c.if-b-eq62.false (is ∙ y)) (λ y. c.if-b-eq47.false (is ∙ y)) (and_left (ltb 0 (p - at)) (begins (get_or m p 0)) (le-ltb 0 (p - at) (omega (arith, t.ensures.len, c.if-gap-eq0.true)))) in
+          let on = tag_other m E room d e (ltb 0 (p - at)) p lt (t.ensures.stops lt) (λ y. c.if-b-eq62.false (is ∙ y)) (λ y. c.if-b-eq47.false (is ∙ y)) (and_left (ltb 0 (p - at)) (begins (get_or m p 0)) (le-ltb 0 (p - at) (omega (arith, t.ensures.len, c.if-gap-eq0.true)))) in
           cc;
     }
 
@@ -145,7 +145,7 @@ returns-then-not-is_first c =
       goes = λ E es o k e row.
           let d = document es (held c.args.attributes.now) o k in
           let first = to_tag m E room d e at p t.ensures.pos in
-          let on = tag-other m E room d e (ltb 0 (p - at)) p lt (t.ensures.stops lt) (λ y. c.if-b-eq62.false (is ∙ y)) (λ y. c.if-b-eq47.false (is ∙ y)) (and_right (ltb 0 (p - at)) (begins (get_or m p 0)) (ap begins (sym is) ∙ sym c.if-not-is_first.ensures)) in
+          let on = tag_other m E room d e (ltb 0 (p - at)) p lt (t.ensures.stops lt) (λ y. c.if-b-eq62.false (is ∙ y)) (λ y. c.if-b-eq47.false (is ∙ y)) (and_right (ltb 0 (p - at)) (begins (get_or m p 0)) (ap begins (sym is) ∙ sym c.if-not-is_first.ensures)) in
           cc;
     }
 
@@ -171,7 +171,7 @@ returns-in_err-read_attribute c =
           let d = document es (held c.args.attributes.now) o k in
           let first = to_tag m E room d e at p t.ensures.pos in
           let begun : begins (get_or m p 0) ≡ true = ap begins (sym is) ∙ sym c.if-not-is_first.ensures in
-          let on = tag-attribute m E room d e (ltb 0 (p - at)) p lt (t.ensures.stops lt) (λ y. c.if-b-eq62.false (is ∙ y)) (λ y. c.if-b-eq47.false (is ∙ y)) (and_from (ltb 0 (p - at)) (begins (get_or m p 0)) (lt-ltb 0 (p - at) spaced) begun) begun in
+          let on = tag_attribute m E room d e (ltb 0 (p - at)) p lt (t.ensures.stops lt) (λ y. c.if-b-eq62.false (is ∙ y)) (λ y. c.if-b-eq47.false (is ∙ y)) (and_from (ltb 0 (p - at)) (begins (get_or m p 0)) (lt-ltb 0 (p - at) spaced) begun) begun in
           let same = t.ensures.src in
           let read = back.goes E es o k e row in
           cc;
@@ -198,7 +198,7 @@ returns c =
           let d = document es (held c.args.attributes.now) o k in
           let first = to_tag m E room d e at p t.ensures.pos in
           let begun : begins (get_or m p 0) ≡ true = ap begins (sym is) ∙ sym c.if-not-is_first.ensures in
-          let on = tag-attribute m E room d e (ltb 0 (p - at)) p lt (t.ensures.stops lt) (λ y. c.if-b-eq62.false (is ∙ y)) (λ y. c.if-b-eq47.false (is ∙ y)) (and_from (ltb 0 (p - at)) (begins (get_or m p 0)) (lt-ltb 0 (p - at) spaced) begun) begun in
+          let on = tag_attribute m E room d e (ltb 0 (p - at)) p lt (t.ensures.stops lt) (λ y. c.if-b-eq62.false (is ∙ y)) (λ y. c.if-b-eq47.false (is ∙ y)) (and_from (ltb 0 (p - at)) (begins (get_or m p 0)) (lt-ltb 0 (p - at) spaced) begun) begun in
           let same = t.ensures.src in
           let read = back.goes E es o k e row in
           cc;
