@@ -1,16 +1,14 @@
 // Tables of expansions, addresses and outputs.
 use super::*;
-use std::process::Abort;
 
-fn expands_to(rt: &impl Abort, template: &[u8], number: u64, text: &[u8]) {
+fn expands_to(template: &[u8], number: u64, text: &[u8]) -> bool {
     let mut bytes = [0u8; 32];
     let mut mark = Mark { used: 0 };
     let answer = put_expanded(
         &mut bytes, &mut mark, template, b"v1", 4294967295, number, 20,
     );
-    assert_eq!(rt; answer, Ok(()));
     let end = mark.used.min(32);
-    assert!(rt; &bytes[0..end] == text);
+    answer == Ok(()) && &bytes[0..end] == text
 }
 
 // A template, a number and the expansion.
@@ -31,7 +29,7 @@ fn expansions(rt: HostRuntime) {
         ExpansionCase(b"$Bandwidth$-$Number%03d$.m4s", 7, b"4294967295-007.m4s"),
     ];
     for case in &cases {
-        expands_to(&rt, case.0, case.1, case.2);
+        assert!(rt; expands_to(case.0, case.1, case.2));
     }
 }
 
@@ -44,7 +42,7 @@ fn base(text: &[u8]) -> Option<&[u8]> {
 #[derive(Clone, Copy)]
 struct AddressCase<'a>([&'a [u8]; 4], &'a [u8], &'a [u8]);
 
-fn joins_to(rt: &impl Abort, case: AddressCase) {
+fn joins_to(case: AddressCase) -> bool {
     let parts = Parts {
         mpd: base(case.0[0]),
         period: base(case.0[1]),
@@ -56,9 +54,9 @@ fn joins_to(rt: &impl Abort, case: AddressCase) {
     };
     let mut bytes = [0u8; 32];
     let mut mark = Mark { used: 0 };
-    assert_eq!(rt; put_address(&mut bytes, &mut mark, &parts, 7, 20), Ok(()));
+    let answer = put_address(&mut bytes, &mut mark, &parts, 7, 20);
     let end = mark.used.min(32);
-    assert!(rt; &bytes[0..end] == case.2);
+    answer == Ok(()) && &bytes[0..end] == case.2
 }
 
 #[test]
@@ -100,19 +98,18 @@ fn addresses(rt: HostRuntime) {
         ),
     ];
     for case in &cases {
-        joins_to(&rt, *case);
+        assert!(rt; joins_to(*case));
     }
 }
 
 // The answer, the mark and the bytes of an address of five bytes.
 fn fits(
-    rt: &impl Abort,
     size: usize,
     used: usize,
     answer: Result<(), ExpandFault>,
     moved: usize,
     left: [u8; 6],
-) {
+) -> bool {
     let parts = Parts {
         mpd: Some(b"ab"),
         period: None,
@@ -124,25 +121,21 @@ fn fits(
     };
     let mut bytes = *b"......";
     let mut mark = Mark { used };
-    assert_eq!(rt;
-        put_address(&mut bytes[0..size.min(6)], &mut mark, &parts, 7, 20),
-        answer
-    );
-    assert_eq!(rt; mark.used, moved);
-    assert_eq!(rt; bytes, left);
+    let answered = put_address(&mut bytes[0..size.min(6)], &mut mark, &parts, 7, 20);
+    answered == answer && mark.used == moved && bytes == left
 }
 
 #[test]
 fn outputs(rt: HostRuntime) {
     let full = Err(ExpandFault::NoRoom(NoRoom));
-    fits(&rt, 0, 0, full, 0, *b"......");
-    fits(&rt, 1, 0, full, 0, *b"a.....");
-    fits(&rt, 4, 0, full, 0, *b"abcd..");
-    fits(&rt, 5, 0, Ok(()), 5, *b"abcd7.");
-    fits(&rt, 6, 1, Ok(()), 6, *b".abcd7");
-    fits(&rt, 6, 2, full, 2, *b"..abcd");
-    fits(&rt, 6, 6, full, 6, *b"......");
-    fits(&rt, 6, 9, full, 9, *b"......");
+    assert!(rt; fits(0, 0, full, 0, *b"......"));
+    assert!(rt; fits(1, 0, full, 0, *b"a....."));
+    assert!(rt; fits(4, 0, full, 0, *b"abcd.."));
+    assert!(rt; fits(5, 0, Ok(()), 5, *b"abcd7."));
+    assert!(rt; fits(6, 1, Ok(()), 6, *b".abcd7"));
+    assert!(rt; fits(6, 2, full, 2, *b"..abcd"));
+    assert!(rt; fits(6, 6, full, 6, *b"......"));
+    assert!(rt; fits(6, 9, full, 9, *b"......"));
 }
 
 // A long id a thousand times into four bytes, and a template that breaks behind it.

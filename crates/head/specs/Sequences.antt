@@ -1,5 +1,5 @@
 -- What a sequence of calls does to a new head, and to an output.
-use Rattle.std.specs.Prelude.{◌≡◌, ℕ, zero, suc, ◌+◌, ◌<◌, Bool, true, false, cond, ◌&&◌, ◌⊎◌, List, [], ◌∷◌, ◌++◌, length, get_or, take, drop, Some, None, Ok, Err, filter, Option, Result, slice_index_or}
+use Rattle.std.specs.Prelude.{◌≡◌, ℕ, zero, suc, ◌+◌, ◌<◌, Bool, true, false, cond, ◌&&◌, ◌⊎◌, List, [], ◌∷◌, ◌++◌, length, take, drop, Some, None, Ok, Err, filter, Option, Result, slice_index_or}
 use Rattle.timeline.specs.declared.segment.Segment.{Segment}
 use Rattle.head.specs.declared.fault.HeadFault.{HeadFault}
 use Rattle.head.specs.declared.step.Call.{Call}
@@ -113,18 +113,18 @@ no_step = record { answer = Ok tt; place = None }
 -- where the head stood before the call at k
 abbrev pub stood : List Step → ℕ → Option ℕ
 stood steps zero = None
-stood steps (suc k) = (get_or steps k no_step).place
+stood steps (suc k) = (slice_index_or steps k no_step).place
 
 -- the first n calls on a new head: the steps and the output before, and the steps and the output after
 pub record Replays (xs : List Segment) (address : ℕ → List ℕ) (timescale : ℕ) (calls : List Call) (steps steps' : List Step) (o o' : Output) (n : ℕ) : Type 0 where
   -- after each call the head stands where the events so far have brought it
-  pub places : (k : ℕ) → k < n → Stands xs timescale (take (k + 1) (events calls steps')) (get_or steps' k no_step).place
+  pub places : (k : ℕ) → k < n → Stands xs timescale (take (k + 1) (events calls steps')) (slice_index_or steps' k no_step).place
   -- the outputs after each call, of which the last is the one at the end
   pub outputs : List Output
   pub many : length outputs ≡ n
-  pub end : get_or (o ∷ outputs) n o ≡ o'
+  pub end : slice_index_or (o ∷ outputs) n o ≡ o'
   -- each call obeys, from where the head stood and from the output as it was
-  pub obeys : (k : ℕ) → k < n → Obeys xs address timescale (stood steps' k) (slice_index_or calls k (Seek 0)) (get_or steps' k no_step).answer (get_or steps' k no_step).place (slice_index_or (o ∷ outputs) k o) (slice_index_or (o ∷ outputs) (k + 1) o)
+  pub obeys : (k : ℕ) → k < n → Obeys xs address timescale (stood steps' k) (slice_index_or calls k (Seek 0)) (slice_index_or steps' k no_step).answer (slice_index_or steps' k no_step).place (slice_index_or (o ∷ outputs) k o) (slice_index_or (o ∷ outputs) (k + 1) o)
   -- the addresses that were written stand one after another behind the mark at the start, up to the mark at the end
   pub mark : o'.used ≡ o.used + length (addresses address (take n (events calls steps')))
   pub written : take o'.used o'.bytes ≡ take o.used o.bytes ++ addresses address (take n (events calls steps'))

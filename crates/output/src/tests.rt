@@ -4,7 +4,6 @@ ghost use Rattle.output.specs.Digits.{padded};
 ghost use Rattle.output.specs.Text.{Puts};
 
 use super::*;
-use std::process::Abort;
 
 // A count with words before it and the end of the line behind it.
 fn line(bytes: &mut [u8], mark: &mut Mark, n: u64) -> Result<(), NoRoom>
@@ -19,51 +18,47 @@ fn line(bytes: &mut [u8], mark: &mut Mark, n: u64) -> Result<(), NoRoom>
 }
 
 fn put_case(
-    rt: &impl Abort,
     used: usize,
     text: &[u8],
     answer: Result<(), NoRoom>,
     moved: usize,
     left: [u8; 4],
-) {
+) -> bool {
     let mut bytes = *b"....";
     let mut mark = Mark { used };
-    assert_eq!(rt; put(&mut bytes, &mut mark, text), answer);
-    assert_eq!(rt; mark.used, moved);
-    assert_eq!(rt; bytes, left);
+    put(&mut bytes, &mut mark, text) == answer && mark.used == moved && bytes == left
 }
 
 #[test]
 fn texts(rt: HostRuntime) {
-    put_case(&rt, 0, b"", Ok(()), 0, *b"....");
-    put_case(&rt, 0, b"abcd", Ok(()), 4, *b"abcd");
-    put_case(&rt, 0, b"abcde", Err(NoRoom), 0, *b"abcd");
-    put_case(&rt, 1, b"ab", Ok(()), 3, *b".ab.");
-    put_case(&rt, 3, b"a", Ok(()), 4, *b"...a");
-    put_case(&rt, 3, b"ab", Err(NoRoom), 3, *b"...a");
-    put_case(&rt, 4, b"", Ok(()), 4, *b"....");
-    put_case(&rt, 4, b"a", Err(NoRoom), 4, *b"....");
-    put_case(&rt, 9, b"", Ok(()), 9, *b"....");
-    put_case(&rt, 9, b"a", Err(NoRoom), 9, *b"....");
+    assert!(rt; put_case(0, b"", Ok(()), 0, *b"...."));
+    assert!(rt; put_case(0, b"abcd", Ok(()), 4, *b"abcd"));
+    assert!(rt; put_case(0, b"abcde", Err(NoRoom), 0, *b"abcd"));
+    assert!(rt; put_case(1, b"ab", Ok(()), 3, *b".ab."));
+    assert!(rt; put_case(3, b"a", Ok(()), 4, *b"...a"));
+    assert!(rt; put_case(3, b"ab", Err(NoRoom), 3, *b"...a"));
+    assert!(rt; put_case(4, b"", Ok(()), 4, *b"...."));
+    assert!(rt; put_case(4, b"a", Err(NoRoom), 4, *b"...."));
+    assert!(rt; put_case(9, b"", Ok(()), 9, *b"...."));
+    assert!(rt; put_case(9, b"a", Err(NoRoom), 9, *b"...."));
 }
 
-fn number_case(rt: &impl Abort, n: u64, width: u8, text: &[u8]) {
+fn number_case(n: u64, width: u8, text: &[u8]) -> bool {
     let mut bytes = [0u8; 20];
     let mut out = Output::new(&mut bytes);
-    assert_eq!(rt; out.write_number(n, width), Ok(()));
-    assert!(rt; out.written() == text);
+    out.write_number(n, width) == Ok(()) && out.written() == text
 }
 
 #[test]
 fn numbers(rt: HostRuntime) {
-    number_case(&rt, 42, 5, b"00042");
-    number_case(&rt, 42, 0, b"42");
-    number_case(&rt, 42, 1, b"42");
-    number_case(&rt, 0, 0, b"0");
-    number_case(&rt, 7, 20, b"00000000000000000007");
-    number_case(&rt, 7, 21, b"00000000000000000007");
-    number_case(&rt, 18446744073709551615, 1, b"18446744073709551615");
-    number_case(&rt, 18446744073709551615, 20, b"18446744073709551615");
+    assert!(rt; number_case(42, 5, b"00042"));
+    assert!(rt; number_case(42, 0, b"42"));
+    assert!(rt; number_case(42, 1, b"42"));
+    assert!(rt; number_case(0, 0, b"0"));
+    assert!(rt; number_case(7, 20, b"00000000000000000007"));
+    assert!(rt; number_case(7, 21, b"00000000000000000007"));
+    assert!(rt; number_case(18446744073709551615, 1, b"18446744073709551615"));
+    assert!(rt; number_case(18446744073709551615, 20, b"18446744073709551615"));
 }
 
 #[test]

@@ -1,5 +1,5 @@
 -- What a timeline means: a list of segments, within limits and in order.
-use Rattle.std.specs.Prelude.{ℕ, zero, suc, ◌+◌, ◌^◌, ◌<◌, ◌≤◌, Bool, false, ◌&&◌, ltb, leb, List, [], ◌∷◌, length, get_or, Ok, Err, filter, Result, nat_le, nat_lt, slice_index_or}
+use Rattle.std.specs.Prelude.{ℕ, zero, suc, ◌+◌, ◌^◌, ◌<◌, ◌≤◌, Bool, false, ◌&&◌, List, [], ◌∷◌, length, Ok, Err, filter, Result, nat_le, nat_lt, slice_index_or}
 use Rattle.std.specs.List.{AllByRecursion}
 use Rattle.timeline.specs.declared.segment.Segment.{Segment}
 use Rattle.timeline.specs.declared.fault.NoSuchPlace.{NoSuchPlace}
@@ -25,7 +25,7 @@ pub record Limited (s : Segment) : Type 0 where
 
 -- each segment's end is at most the start of the next
 abbrev pub InOrder : List Segment → Type 0
-InOrder xs = (i : ℕ) (d : Segment) → i + 1 < length xs → end (slice_index_or xs i d) ≤ (get_or xs (i + 1) d).start
+InOrder xs = (i : ℕ) (d : Segment) → i + 1 < length xs → end (slice_index_or xs i d) ≤ (slice_index_or xs (i + 1) d).start
 
 -- the limits and the order of a whole list
 pub record Sound (xs : List Segment) : Type 0 where
@@ -41,15 +41,15 @@ told (x ∷ xs) (suc i) = told xs i
 
 -- how many segments have ended by the tick
 abbrev pub ended_by : List Segment → ℕ → ℕ
-ended_by xs tick = length (filter (λ s. leb (end s) tick) xs)
+ended_by xs tick = length (filter (λ s. nat_le (end s) tick) xs)
 
 -- how many segments start before the tick
 abbrev pub begun_by : List Segment → ℕ → ℕ
-begun_by xs tick = length (filter (λ s. ltb s.start tick) xs)
+begun_by xs tick = length (filter (λ s. nat_lt s.start tick) xs)
 
 -- the segments that end after a tick
 abbrev pub after : ℕ → List Segment → List Segment
-after from xs = filter (λ s. ltb from (end s)) xs
+after from xs = filter (λ s. nat_lt from (end s)) xs
 
 -- a segment that ends after one tick and starts before another
 abbrev pub meets : ℕ → ℕ → Segment → Bool

@@ -3,7 +3,6 @@ ghost use Rattle.std.specs.Prelude.{◌+◌, ◌%◌, [], ◌∷◌};
 
 use super::*;
 use output::{Mark, put};
-use std::process::Abort;
 use std::test::Fail;
 
 // The address of a place is its last decimal digit.
@@ -43,19 +42,21 @@ fn run(start: u64, length: u64, count: u32) -> Run {
     }
 }
 
-fn tells<T: Timeline>(rt: &impl Abort, timeline: &T, list: &[Segment]) {
+fn tells<T: Timeline>(timeline: &T, list: &[Segment]) -> bool {
     let mut place = 0u32;
     for segment in list {
-        assert_eq!(rt; timeline.segment(place), Ok(*segment));
+        if timeline.segment(place) != Ok(*segment) {
+            return false;
+        }
         place = place.saturating_add(1);
     }
-    assert_eq!(rt; timeline.count(), place);
-    assert_eq!(rt; timeline.segment(place), Err(NoSuchPlace));
-    assert_eq!(rt; timeline.segment(u32::MAX), Err(NoSuchPlace));
+    timeline.count() == place
+        && timeline.segment(place) == Err(NoSuchPlace)
+        && timeline.segment(u32::MAX) == Err(NoSuchPlace)
 }
 
-fn writes(rt: &impl Abort, first: u32, runs: &[Run], list: &[Segment]) {
-    tells(rt, &Written::new(first, runs), list);
+fn writes(first: u32, runs: &[Run], list: &[Segment]) -> bool {
+    tells(&Written::new(first, runs), list)
 }
 
 #[test]
@@ -63,38 +64,42 @@ fn layers(rt: HostRuntime) {
     let runs = [run(0, 20, 2), run(45, 20, 1)];
     let bottom = Written::new(5, &runs);
     let all = [segment(5, 0, 20), segment(6, 20, 20), segment(7, 45, 20)];
-    tells(&rt, &bottom, &all);
-    tells(
-        &rt,
-        &Shift {
-            below: bottom,
-            by: 0,
-        },
-        &all,
+    assert!(rt; tells(&bottom, &all));
+    assert!(rt;
+        tells(
+            &Shift {
+                below: bottom,
+                by: 0,
+            },
+            &all
+        )
     );
-    tells(
-        &rt,
-        &Cut {
-            below: bottom,
-            at: u64::MAX,
-        },
-        &all,
+    assert!(rt;
+        tells(
+            &Cut {
+                below: bottom,
+                at: u64::MAX,
+            },
+            &all
+        )
     );
-    tells(
-        &rt,
-        &Cut {
-            below: bottom,
-            at: 0,
-        },
-        &[],
+    assert!(rt;
+        tells(
+            &Cut {
+                below: bottom,
+                at: 0,
+            },
+            &[]
+        )
     );
-    tells(
-        &rt,
-        &Cut {
-            below: bottom,
-            at: 20,
-        },
-        &[segment(5, 0, 20)],
+    assert!(rt;
+        tells(
+            &Cut {
+                below: bottom,
+                at: 20,
+            },
+            &[segment(5, 0, 20)]
+        )
     );
 }
 
@@ -102,29 +107,32 @@ fn layers(rt: HostRuntime) {
 fn shifts(rt: HostRuntime) {
     let runs = [run(0, 20, 2), run(45, 20, 1)];
     let bottom = Written::new(5, &runs);
-    tells(
-        &rt,
-        &Shift {
-            below: bottom,
-            by: 64,
-        },
-        &[segment(7, 0, 1)],
+    assert!(rt;
+        tells(
+            &Shift {
+                below: bottom,
+                by: 64,
+            },
+            &[segment(7, 0, 1)]
+        )
     );
-    tells(
-        &rt,
-        &Shift {
-            below: bottom,
-            by: 65,
-        },
-        &[],
+    assert!(rt;
+        tells(
+            &Shift {
+                below: bottom,
+                by: 65,
+            },
+            &[]
+        )
     );
-    tells(
-        &rt,
-        &Shift {
-            below: bottom,
-            by: u64::MAX,
-        },
-        &[],
+    assert!(rt;
+        tells(
+            &Shift {
+                below: bottom,
+                by: u64::MAX,
+            },
+            &[]
+        )
     );
 }
 
@@ -138,10 +146,11 @@ fn piles(rt: HostRuntime) {
         below: late,
         at: 50,
     };
-    tells(
-        &rt,
-        &shown,
-        &[segment(5, 0, 15), segment(6, 15, 20), segment(7, 40, 10)],
+    assert!(rt;
+        tells(
+            &shown,
+            &[segment(5, 0, 15), segment(6, 15, 20), segment(7, 40, 10)]
+        )
     );
     assert_eq!(rt; shown.ended(35), 2);
     assert_eq!(rt; shown.within(35, 40), 0);
@@ -155,7 +164,7 @@ fn piles(rt: HostRuntime) {
         },
         at: 21,
     };
-    tells(&rt, &pile, &[segment(6, 0, 15), segment(7, 20, 1)]);
+    assert!(rt; tells(&pile, &[segment(6, 0, 15), segment(7, 20, 1)]));
 }
 
 #[test]
@@ -166,33 +175,36 @@ fn bottoms(rt: HostRuntime) {
         long.segment(2_147_483_646),
         Ok(segment(2_147_483_653, 9_007_199_246_352_384, 4_194_304))
     );
-    tells(
-        &rt,
-        &Even::new(0, 20, 41),
-        &[segment(0, 0, 20), segment(1, 20, 20), segment(2, 40, 20)],
+    assert!(rt;
+        tells(
+            &Even::new(0, 20, 41),
+            &[segment(0, 0, 20), segment(1, 20, 20), segment(2, 40, 20)]
+        )
     );
-    tells(&rt, &Even::new(7, 1, 2_147_483_648), &[]);
-    tells(&rt, &Even::new(0, 0, 1), &[]);
-    tells(&rt, &Even::new(0, 4_294_967_296, 1), &[]);
-    tells(&rt, &Even::new(u32::MAX, 1, 2), &[]);
-    writes(
-        &rt,
-        u32::MAX,
-        &[run(9_007_199_254_740_990, 2, 1)],
-        &[segment(u32::MAX, 9_007_199_254_740_990, 2)],
+    assert!(rt; tells(&Even::new(7, 1, 2_147_483_648), &[]));
+    assert!(rt; tells(&Even::new(0, 0, 1), &[]));
+    assert!(rt; tells(&Even::new(0, 4_294_967_296, 1), &[]));
+    assert!(rt; tells(&Even::new(u32::MAX, 1, 2), &[]));
+    assert!(rt;
+        writes(
+            u32::MAX,
+            &[run(9_007_199_254_740_990, 2, 1)],
+            &[segment(u32::MAX, 9_007_199_254_740_990, 2)]
+        )
     );
-    writes(&rt, u32::MAX, &[run(0, 1, 2)], &[]);
-    writes(&rt, 0, &[run(0, 1, 1), run(1, 1, 0)], &[]);
-    writes(&rt, 0, &[run(0, 0, 1)], &[]);
-    writes(&rt, 0, &[run(0, 2, 2), run(3, 1, 1)], &[]);
-    writes(&rt, 0, &[run(u64::MAX, u64::MAX, u32::MAX)], &[]);
-    writes(
-        &rt,
-        0,
-        &[run(0, 1, 2_147_483_647), run(2_147_483_647, 1, 1)],
-        &[],
+    assert!(rt; writes(u32::MAX, &[run(0, 1, 2)], &[]));
+    assert!(rt; writes(0, &[run(0, 1, 1), run(1, 1, 0)], &[]));
+    assert!(rt; writes(0, &[run(0, 0, 1)], &[]));
+    assert!(rt; writes(0, &[run(0, 2, 2), run(3, 1, 1)], &[]));
+    assert!(rt; writes(0, &[run(u64::MAX, u64::MAX, u32::MAX)], &[]));
+    assert!(rt;
+        writes(
+            0,
+            &[run(0, 1, 2_147_483_647), run(2_147_483_647, 1, 1)],
+            &[]
+        )
     );
-    writes(&rt, 0, &[], &[]);
+    assert!(rt; writes(0, &[], &[]));
 }
 
 #[test]

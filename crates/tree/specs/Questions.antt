@@ -1,5 +1,5 @@
 -- Questions over the rows of a manifest: names, attributes and children.
-use Rattle.std.specs.Prelude.{ℕ, ◌+◌, ◌-◌, Bool, cond, ◌&&◌, List, [], ◌∷◌, length, get_or, drop, Some, None, filter, Option, ◌==◌, nat_lt, slice_index_or}
+use Rattle.std.specs.Prelude.{ℕ, ◌+◌, ◌-◌, Bool, cond, ◌&&◌, List, [], ◌∷◌, length, drop, Some, None, filter, Option, ◌==◌, nat_lt, slice_index_or}
 use Rattle.std.specs.List.{range_with_len}
 use Rattle.std.specs.Str.{bytes_eq}
 use Rattle.tables.specs.Parts.{part}
@@ -9,11 +9,11 @@ use Rattle.tables.specs.declared.manifest.Element.{Element}
 
 -- the name of the element in the row e, empty where there is no such row
 abbrev pub name_at : List ℕ → List Element → ℕ → List ℕ
-name_at m es e = part m (get_or es e no_element).name
+name_at m es e = part m (slice_index_or es e no_element).name
 
 -- the text of the element in the row e, empty where there is no such row
 abbrev pub text_at : List ℕ → List Element → ℕ → List ℕ
-text_at m es e = part m (get_or es e no_element).text
+text_at m es e = part m (slice_index_or es e no_element).text
 
 -- whether a is an attribute of the element in the row e with the name n
 abbrev pub belongs : List ℕ → ℕ → List ℕ → Attribute → Bool

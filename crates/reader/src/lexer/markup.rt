@@ -1,5 +1,5 @@
 // Tags and elements: the manifest's rows.
-ghost use Rattle.std.specs.Prelude.{◌≡◌, ℕ, ◌+◌, ◌<◌, ◌≤◌, true, false, not, ◌&&◌, ◌||◌, ltb, List, [], ◌∷◌, ◌++◌, length, if◌then◌else◌, MatchResult, ◌==◌, nat_lt, slice_index, slice_index_or};
+ghost use Rattle.std.specs.Prelude.{◌≡◌, ℕ, ◌+◌, ◌<◌, ◌≤◌, true, false, not, ◌&&◌, ◌||◌, List, [], ◌∷◌, ◌++◌, length, if◌then◌else◌, MatchResult, ◌==◌, nat_lt, slice_index, slice_index_or};
 ghost use Rattle.std.specs.Str.{bytes_eq};
 ghost use Rattle.tables.specs.Parts.{part};
 ghost use Rattle.tables.specs.Rows.{held, capacity};
@@ -324,7 +324,7 @@ fn is_finished(depth: usize, rows: usize) -> bool
 
 // Why a byte may not stand between tags.
 fn stray(depth: usize, b: u8) -> ReadRefusal
-    ensures { result ≡ (if ltb 0 depth && b == 38 then Ampersand else Grammar) }
+    ensures { result ≡ (if nat_lt 0 depth && b == 38 then Ampersand else Grammar) }
 {
     if depth > 0 && b == b'&' {
         ReadRefusal::Ampersand

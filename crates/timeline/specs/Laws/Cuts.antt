@@ -1,5 +1,5 @@
 -- The list of a cut, by the place where the list below is split.
-use Rattle.std.specs.Prelude.{◌≡◌, ℕ, ◌+◌, ◌<◌, ◌≤◌, List, map, length, get_or, take, nat_lt, slice_index_or, refl}
+use Rattle.std.specs.Prelude.{◌≡◌, ℕ, ◌+◌, ◌<◌, ◌≤◌, List, map, length, take, nat_lt, slice_index_or, refl}
 use Rattle.std.proofs.Common.{ap, ◌∙◌, inl, inr, arith}
 use Rattle.std.proofs.ByRecursion.{All-from_get_or}
 use Rattle.std.proofs.lemmas.List.{length-map, get_or-map, get_or-take, get_or_default, length-take-le}
@@ -25,7 +25,7 @@ module _ (xs : List Segment) (ok : Sound xs) (tick k : ℕ) (split : Split xs ti
     after = λ i d h l. omega (arith, in_order xs ok k i d (omega arith) l, split.after k d (omega arith) within);
   }
 
-  pub begun_same : (k < length xs → tick ≤ (get_or xs k blank).start) → Begun xs tick k
+  pub begun_same : (k < length xs → tick ≤ (slice_index_or xs k blank).start) → Begun xs tick k
   begun_same late = record {
     within = split.within;
     before = λ i d h. omega (arith, split.before i d h, (limited_at xs ok i d (omega (arith, split.within))).long);
@@ -39,8 +39,8 @@ module _ (at : ℕ) (xs : List Segment) (k : ℕ) (begun : Begun xs at k) where
   cut_is : cut_off at xs ≡ map (shortened at) (take k xs)
   cut_is =
       ap (map (shortened at)) (kept_front (λ s. nat_lt s.start at) xs k begun.within
-      (λ i d h. lt-ltb (get_or xs i d).start at (begun.before i d h))
-      (λ i d h l. le-ltb (get_or xs i d).start at (begun.after i d h l)))
+      (λ i d h. lt-ltb (slice_index_or xs i d).start at (begun.before i d h))
+      (λ i d h l. le-ltb (slice_index_or xs i d).start at (begun.after i d h l)))
 
   pub length_cut : length (cut_off at xs) ≡ k
   length_cut = ap length cut_is ∙ length-map (take k xs) (shortened at) ∙ length-take-le k xs begun.within
@@ -48,7 +48,7 @@ module _ (at : ℕ) (xs : List Segment) (k : ℕ) (begun : Begun xs at k) where
   pub get_or-cut : (i : ℕ) (d : Segment) → i < k → slice_index_or (cut_off at xs) i d ≡ shortened at (slice_index_or xs i blank)
   get_or-cut i d h =
       let within : i < length (take k xs) = rw (length-take-le k xs begun.within) h in
-      ap (λ ys. get_or ys i d) cut_is ∙ get_or-map (shortened at) (take k xs) i blank d within ∙ ap (shortened at) (get_or-take k xs i blank h)
+      ap (λ ys. slice_index_or ys i d) cut_is ∙ get_or-map (shortened at) (take k xs) i blank d within ∙ ap (shortened at) (get_or-take k xs i blank h)
 
   sound_begun : Sound xs → Sound (cut_off at xs)
   sound_begun ok = record {

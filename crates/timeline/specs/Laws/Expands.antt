@@ -1,5 +1,5 @@
 -- The list that fair runs write out is within the limits and in order.
-use Rattle.std.specs.Prelude.{◌≡◌, ℕ, ◌+◌, ◌-◌, ◌*◌, ◌^◌, ◌<◌, ◌≤◌, true, List, [], ◌∷◌, ◌++◌, length, get_or, slice_index_or, refl}
+use Rattle.std.specs.Prelude.{◌≡◌, ℕ, ◌+◌, ◌-◌, ◌*◌, ◌^◌, ◌<◌, ◌≤◌, true, List, [], ◌∷◌, ◌++◌, length, slice_index_or, refl}
 use Rattle.std.proofs.Common.{◌∙◌, inl, inr, arith, add-mul, mul-le-mul_right}
 use Rattle.std.specs.List.{AllByRecursion}
 use Rattle.std.proofs.ByRecursion.{All-append, All-from_get_or}
@@ -50,7 +50,7 @@ module _ (number : ℕ) (r : Run) where
       let k : i < r.count = rw length_run at h in
       rw (get_or-run number r i) record { number = omega arith; long = long; within = omega (arith, inside r i k) })
 
-  pub ordered_run : (i : ℕ) (d : Segment) → i + 1 < r.count → end (slice_index_or (run_list number r) i d) ≤ (get_or (run_list number r) (i + 1) d).start
+  pub ordered_run : (i : ℕ) (d : Segment) → i + 1 < r.count → end (slice_index_or (run_list number r) i d) ≤ (slice_index_or (run_list number r) (i + 1) d).start
   ordered_run i d h =
       let j : i < r.count = omega arith in
       rw (get_or-run number r i d j, get_or-run number r (i + 1) d h) (omega (arith, add-mul i 1 r.length))
@@ -64,7 +64,7 @@ limited_expanded from first (r ∷ rs) fair numbers =
     (limited_expanded (run_end r) (first + r.count) rs f.rest (omega arith))
 
 -- the first segment does not start before the tick that the runs go on from
-starts_late : (from first : ℕ) (runs : List Run) → fair_from from runs ≡ true → (d : Segment) → 0 < length (expanded first runs) → from ≤ (get_or (expanded first runs) 0 d).start
+starts_late : (from first : ℕ) (runs : List Run) → fair_from from runs ≡ true → (d : Segment) → 0 < length (expanded first runs) → from ≤ (slice_index_or (expanded first runs) 0 d).start
 starts_late from first [] fair d h = absurd (omega arith)
 starts_late from first (r ∷ rs) fair d h =
     let f = fair_parts from r rs fair in
@@ -72,7 +72,7 @@ starts_late from first (r ∷ rs) fair d h =
     let k : 0 < length (run_list first r) = rw length_run some in
     rw (get_or_append_left (run_list first r) (expanded (first + r.count) rs) d 0 k, get_or-run first r 0 d some) (omega (arith, f.later))
 
-ordered_expanded : (from first : ℕ) (runs : List Run) → fair_from from runs ≡ true → (i : ℕ) (d : Segment) → i + 1 < length (expanded first runs) → end (slice_index_or (expanded first runs) i d) ≤ (get_or (expanded first runs) (i + 1) d).start
+ordered_expanded : (from first : ℕ) (runs : List Run) → fair_from from runs ≡ true → (i : ℕ) (d : Segment) → i + 1 < length (expanded first runs) → end (slice_index_or (expanded first runs) i d) ≤ (slice_index_or (expanded first runs) (i + 1) d).start
 ordered_expanded from first [] fair i d h = absurd (omega arith)
 ordered_expanded from first (r ∷ rs) fair i d h =
     let f = fair_parts from r rs fair in

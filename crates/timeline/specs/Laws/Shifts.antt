@@ -1,5 +1,5 @@
 -- The list of a shift, by the place where the list below is split.
-use Rattle.std.specs.Prelude.{◌≡◌, ℕ, ◌+◌, ◌-◌, ◌<◌, List, map, length, get_or, drop, nat_lt, slice_index_or, refl}
+use Rattle.std.specs.Prelude.{◌≡◌, ℕ, ◌+◌, ◌-◌, ◌<◌, List, map, length, drop, nat_lt, slice_index_or, refl}
 use Rattle.std.proofs.Common.{ap, ◌∙◌, arith, length-drop}
 use Rattle.std.proofs.ByRecursion.{All-from_get_or}
 use Rattle.std.proofs.lemmas.List.{length-map, get_or-map, get_or-drop}
@@ -24,7 +24,7 @@ module _ (by : ℕ) (xs : List Segment) (k : ℕ) (split : Split xs by k) where
   pub get_or-shifted : (i : ℕ) (d : Segment) → i < length xs - k → slice_index_or (shifted by xs) i d ≡ earlier by (slice_index_or xs (k + i) blank)
   get_or-shifted i d h =
       let within : i < length (drop k xs) = rw (length-drop k xs) h in
-      ap (λ ys. get_or ys i d) shifted_is ∙ get_or-map (earlier by) (drop k xs) i blank d within ∙ ap (earlier by) (get_or-drop k xs i blank)
+      ap (λ ys. slice_index_or ys i d) shifted_is ∙ get_or-map (earlier by) (drop k xs) i blank d within ∙ ap (earlier by) (get_or-drop k xs i blank)
 
   sound_split : Sound xs → Sound (shifted by xs)
   sound_split ok = record {

@@ -1,5 +1,5 @@
 -- Where a tick splits a list in order: the place that the counts name.
-use Rattle.std.specs.Prelude.{◌≡◌, ℕ, ◌<◌, ◌≤◌, true, List, length, get_or, nat_le, nat_lt, slice_index_or}
+use Rattle.std.specs.Prelude.{◌≡◌, ℕ, ◌<◌, ◌≤◌, true, List, length, nat_le, nat_lt, slice_index_or}
 use Rattle.std.proofs.Common.{sym, ap, subst, ◌∙◌, arith}
 use Rattle.std.proofs.lemmas.List.{length-take-le}
 use Rattle.std.proofs.lemmas.Bool.{lt-ltb, le-leb, lt-leb, ltb-true, ltb-false, leb-true, leb-false}
@@ -17,8 +17,8 @@ pub record Split (xs : List Segment) (tick k : ℕ) : Type 0 where
 -- the segments before place k start before the tick, and those from k on do not
 pub record Begun (xs : List Segment) (tick k : ℕ) : Type 0 where
   pub within : k ≤ length xs
-  pub before : (i : ℕ) (d : Segment) → i < k → (get_or xs i d).start < tick
-  pub after : (i : ℕ) (d : Segment) → k ≤ i → i < length xs → tick ≤ (get_or xs i d).start
+  pub before : (i : ℕ) (d : Segment) → i < k → (slice_index_or xs i d).start < tick
+  pub after : (i : ℕ) (d : Segment) → k ≤ i → i < length xs → tick ≤ (slice_index_or xs i d).start
 
 pub split_counts : (xs : List Segment) (tick k : ℕ) → Split xs tick k → k ≡ ended_by xs tick
 split_counts xs tick k split =
@@ -40,13 +40,13 @@ module _ (xs : List Segment) (ok : Sound xs) (tick k : ℕ) where
 
   pub counts_begun : k ≡ begun_by xs tick → Begun xs tick k
   counts_begun e =
-      let turns = λ (i j : ℕ) (d : Segment) (h : i ≤ j) (l : j < length xs) (t : nat_lt (get_or xs j d).start tick ≡ true).
-      lt-ltb (get_or xs i d).start tick (omega (arith, starts_rise xs ok i j d h l, ltb-true (get_or xs j d).start tick t)) in
+      let turns = λ (i j : ℕ) (d : Segment) (h : i ≤ j) (l : j < length xs) (t : nat_lt (slice_index_or xs j d).start tick ≡ true).
+      lt-ltb (slice_index_or xs i d).start tick (omega (arith, starts_rise xs ok i j d h l, ltb-true (slice_index_or xs j d).start tick t)) in
       let p = λ (s : Segment). nat_lt s.start tick in
       subst (Begun xs tick) (sym e) record {
         within = kept_short p xs;
-        before = λ i d h. ltb-true (get_or xs i d).start tick (turn_before p xs turns i d h);
-        after = λ i d h l. ltb-false (get_or xs i d).start tick (turn_after p xs turns i d h l);
+        before = λ i d h. ltb-true (slice_index_or xs i d).start tick (turn_before p xs turns i d h);
+        after = λ i d h l. ltb-false (slice_index_or xs i d).start tick (turn_after p xs turns i d h l);
       }
 
 pub ended_within : (xs : List Segment) (tick k : ℕ) → k ≡ ended_by xs tick → k ≤ length xs

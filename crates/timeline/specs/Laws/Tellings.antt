@@ -1,5 +1,5 @@
 -- What is told of a place, and what the order law gives of any two places.
-use Rattle.std.specs.Prelude.{◌≡◌, ℕ, zero, suc, ◌+◌, ◌-◌, ◌<◌, ◌≤◌, List, [], ◌∷◌, length, get_or, Ok, Err, slice_index_or, refl}
+use Rattle.std.specs.Prelude.{◌≡◌, ℕ, zero, suc, ◌+◌, ◌-◌, ◌<◌, ◌≤◌, List, [], ◌∷◌, length, Ok, Err, slice_index_or, refl}
 use Rattle.std.proofs.Common.{arith, inl, inr}
 use Rattle.std.proofs.ByRecursion.{All-get_or}
 use Rattle.std.proofs.lemmas.Bool.{cases_lt}
@@ -22,7 +22,7 @@ module _ (xs : List Segment) (ok : Sound xs) where
   limited_at i d h = All-get_or Limited xs i d h ok.limited
 
   -- the order of two places that are k apart
-  apart : (k i : ℕ) (d : Segment) → i + 1 + k < length xs → end (slice_index_or xs i d) ≤ (get_or xs (i + 1 + k) d).start
+  apart : (k i : ℕ) (d : Segment) → i + 1 + k < length xs → end (slice_index_or xs i d) ≤ (slice_index_or xs (i + 1 + k) d).start
   apart zero i d h = let e : i + 1 + 0 ≡ i + 1 = omega arith in rw e (ok.order i d (omega arith))
   apart (suc k) i d h =
       let before = apart k i d (omega arith) in
@@ -31,7 +31,7 @@ module _ (xs : List Segment) (ok : Sound xs) where
       let e : i + 1 + suc k ≡ i + 1 + k + 1 = omega arith in
       rw e (omega arith)
 
-  pub in_order : (i j : ℕ) (d : Segment) → i < j → j < length xs → end (slice_index_or xs i d) ≤ (get_or xs j d).start
+  pub in_order : (i j : ℕ) (d : Segment) → i < j → j < length xs → end (slice_index_or xs i d) ≤ (slice_index_or xs j d).start
   in_order i j d h k =
       let e : i + 1 + (j - (i + 1)) ≡ j = omega arith in
       rw e at (apart (j - (i + 1)) i d (omega arith))
@@ -41,5 +41,5 @@ module _ (xs : List Segment) (ok : Sound xs) where
   ends_rise i j d h k = elim (cases_lt i j) [ inl l ↦ omega (arith, in_order i j d l k) | inr l ↦ let e : i ≡ j = omega arith in rw e (omega arith) ]
 
   -- the starts rise too
-  pub starts_rise : (i j : ℕ) (d : Segment) → i ≤ j → j < length xs → (get_or xs i d).start ≤ (get_or xs j d).start
+  pub starts_rise : (i j : ℕ) (d : Segment) → i ≤ j → j < length xs → (slice_index_or xs i d).start ≤ (slice_index_or xs j d).start
   starts_rise i j d h k = elim (cases_lt i j) [ inl l ↦ omega (arith, in_order i j d l k) | inr l ↦ let e : i ≡ j = omega arith in rw e (omega arith) ]
