@@ -3,7 +3,8 @@
 
 usage: python3 tools/respell.py [FOLDER]     rewrites the .rt and .antt files below FOLDER/crates (default: here)
 
-respell.txt beside it has the old and the new name on each line. Only whole names are rewritten, in .antt files and in
+respell.txt beside it has the old and the new name on each line. In specs/ and in clauses three functions of the library
+go by the names that specs use throughout. Only whole names are rewritten, in .antt files and in
 the ghost lines, clauses and attributes of .rt files, whose own code has none of the names; strings and comments keep theirs.
 """
 import os
@@ -11,6 +12,7 @@ import re
 import sys
 
 HERE = os.path.dirname(os.path.realpath(__file__))
+LIBRARY = {"get_or": "slice_index_or", "leb": "nat_le", "ltb": "nat_lt", "room-number": "room_number"}
 BREAKS = r"\s(){}\[\];,.\"⦃⦄"
 
 
@@ -25,6 +27,14 @@ def files(root):
         for name in sorted(names):
             if name.endswith((".rt", ".antt")):
                 yield os.path.join(folder, name)
+
+
+def import_once(line):
+    """The line, an import in braces, with each name once."""
+    m = re.match(r"((?:ghost )?use [^{]*\{)([^}]*)(\}.*)", line)
+    if not m:
+        return line
+    return m.group(1) + ", ".join(dict.fromkeys(m.group(2).split(", "))) + m.group(3)
 
 
 def respell(text, names, comment):
@@ -48,6 +58,8 @@ def main(root):
             old = f.read()
         comment = "--(?=[\\s-]|$)" if path.endswith(".antt") else "//"
         new = respell(old, names, comment)
+        if "/specs/" in path or path.endswith(".rt"):
+            new = "\n".join(map(import_once, respell(new, LIBRARY, comment).split("\n")))
         if new != old:
             with open(path, "w", encoding="utf-8") as f:
                 f.write(new)
