@@ -1,10 +1,9 @@
 -- The lemmas: on tests one behind the other, on the values in their order, on the first refusal that applies, on
--- addresses, on timelines within the limits, on sums, and on what comes of it all.
+-- addresses, on sums, and on what comes of it all.
 pub mod Tests
 pub mod Order
 pub mod Firsts
 pub mod Addresses
-pub mod Wholes
 pub mod Outcomes
 pub mod Media
 pub mod Written

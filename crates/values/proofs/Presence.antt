@@ -1,22 +1,10 @@
 -- What is read of a text that may be absent, and when it is refused.
 use Rattle.std.proofs.Common.{◌≡◌, ℕ, Bool, true, false, not, ◌||◌, List, [], ◌∷◌, ◌++◌, is_ok, Some, None, Ok, Err, Option, Result, sym, refl, ap, ◌∙◌, arith}
-use Rattle.std.specs.Option.{option_flatten, option_transpose}
+use Rattle.std.specs.Option.{option_transpose}
 use Rattle.values.specs.declared.ValueFault.{ValueFault}
-use Rattle.values.specs.Given.{given, answered, present, Kind, readable, refused_as, Asked, unread, some_unread}
+use Rattle.values.specs.Given.{given, Kind, readable, refused_as, Asked, unread, some_unread}
 
 module _ {X : Type 0} (read : List ℕ → Result X ValueFault) where
-  joined : (r : Result X ValueFault) → option_flatten (answered (option_transpose (Some r))) ≡ answered r
-  joined (Ok x) = refl
-  joined (Err e) = refl
-
-  answered_given : (t : Option (List ℕ)) → option_flatten (answered (given read t)) ≡ present read t
-  answered_given None = refl
-  answered_given (Some t) = joined (read t)
-
-  -- what is answered is the value that is present
-  pub given_ok : (u t : Option (List ℕ)) (o : Option X) → u ≡ t → Ok o ≡ given read u → o ≡ present read t
-  given_ok u t o is e = ap (λ (r : Result (Option X) ValueFault). option_flatten (answered r)) (e ∙ ap (given read) is) ∙ answered_given t
-
   tested : (r : Result X ValueFault) → not (is_ok r) ≡ not (is_ok (option_transpose (Some r)))
   tested (Ok x) = refl
   tested (Err e) = refl
