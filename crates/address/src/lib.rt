@@ -1,22 +1,22 @@
 // Segment addresses: a template's expansion, and base URLs joined with it.
 #![tactic(auto)]
 
-ghost use Rattle.std.specs.Prelude.{◌≡◌, ◌||◌};
+ghost use Rattle.std.specs.Prelude.{◌≡◌};
 ghost use Rattle.output.specs.Text.{Puts};
 ghost use Rattle.template.specs.Reading.{broken};
-ghost use Rattle.address.specs.Expansion.{meaning, value_text, expansion, Expands};
-ghost use Rattle.address.specs.Joining.{absolute, absolute_in, kept, parts_of, address_of, Begun};
+ghost use Rattle.address.specs.Expansion.{given, meaning, value_text, expanded, front_of, Expands};
+ghost use Rattle.address.specs.Joining.{absolute, JoinedFrom, joined, parts_with, together, present, given_of, parts_of, address_of, Begun};
 ghost use Rattle.address.specs.Putting.{PutsUnless};
 ghost use Rattle.address.specs.declared.ExpandFault.{ExpandFault};
 
 use output::{Guard, Mark, NoRoom, put, put_number};
-use template::{Identifier, Next, Piece, is_broken, piece_at};
+use template::{Identifier, Piece, Pieces, is_broken};
 
 #[cfg(test)]
 mod tests;
 
 // What the addresses of a Representation's segments are made from. A level without a base URL gives no part.
-#[derive(Clone, Copy)]
+#[derive(Clone, Copy, Debug, PartialEq, Eq)]
 pub struct Parts<'a> {
     pub mpd: Option<&'a [u8]>,
     pub period: Option<&'a [u8]>,
@@ -30,10 +30,12 @@ pub struct Parts<'a> {
 // Why a text is refused: its template is broken, which has no number of its own, or there is no room for it.
 #[derive(Clone, Copy, Debug, PartialEq, Eq)]
 pub enum ExpandFault {
+    // A test finds it before anything is put, so there is no refusal of a call that `?` could carry on.
     Broken,
     NoRoom(NoRoom),
 }
 
+// Written out, so that the clauses can name the refusal that `?` makes.
 impl From<NoRoom> for ExpandFault {
     ghost from_gives = { λ e r. r ≡ ExpandFault.NoRoom e };
 
@@ -43,12 +45,26 @@ impl From<NoRoom> for ExpandFault {
 }
 
 // What the identifiers of a template stand for.
-#[derive(Clone, Copy)]
-struct Values<'a> {
-    id: &'a [u8],
-    bandwidth: u64,
-    number: u64,
-    time: u64,
+#[derive(Clone, Copy, Debug, PartialEq, Eq)]
+pub struct Values<'a> {
+    pub id: &'a [u8],
+    pub bandwidth: u64,
+    pub number: u64,
+    pub time: u64,
+}
+
+impl<'a> Parts<'a> {
+    // What the identifiers stand for in a segment's address.
+    pub fn values(&self, number: u64, time: u64) -> Values<'a>
+        ensures { given result ≡ given_of self.now number time }
+    {
+        Values {
+            id: self.id,
+            bandwidth: self.bandwidth,
+            number,
+            time,
+        }
+    }
 }
 
 // Puts the template's expansion. A broken template has none: then nothing changes.
@@ -56,29 +72,21 @@ pub fn put_expanded(
     bytes: &mut [u8],
     mark: &mut Mark,
     template: &[u8],
-    id: &[u8],
-    bandwidth: u64,
-    number: u64,
-    time: u64,
+    values: Values,
 ) -> Result<(), ExpandFault>
-    ensures put { PutsUnless (broken template.now) bytes.old mark.old.used (expansion template.now id.now bandwidth number time) bytes.new mark.new.used result }
-    ensures only { Expands template.now id.now bandwidth number time }
+    ensures put { PutsUnless (broken template.now) bytes.old mark.old.used (expanded template.now (given values.entry)) bytes.new mark.new.used result }
+    ensures only { Expands template.now (given values.entry) }
 {
     if is_broken(template) {
         return Err(ExpandFault::Broken);
     }
-    let values = Values {
-        id,
-        bandwidth,
-        number,
-        time,
-    };
     put_pieces(bytes, mark, template, values)?;
     Ok(())
 }
 
 // Puts the address: the parts from the last one on that starts with `http://` or `https://`, all of them if none does.
-// With a broken template there is no address: then nothing changes.
+// With a broken template there is no address: then nothing changes. The number and the time alone are the
+// segment's: `Values` would name the parts' id and bandwidth a second time.
 pub fn put_address(
     bytes: &mut [u8],
     mark: &mut Mark,
@@ -92,81 +100,73 @@ pub fn put_address(
     if is_broken(parts.template) {
         return Err(ExpandFault::Broken);
     }
-    put_parts(bytes, mark, *parts, number, time)?;
+    put_parts(bytes, mark, *parts, parts.values(number, time))?;
     Ok(())
 }
 
-// Puts the parts that are joined: each one behind which no part starts the address anew.
-fn put_parts(
-    bytes: &mut [u8],
-    mark: &mut Mark,
-    parts: Parts,
-    number: u64,
-    time: u64,
-) -> Result<(), NoRoom>
-    ensures { Puts bytes.old mark.old.used (address_of parts.entry number time) bytes.new mark.new.used result }
+// Puts the parts that are joined.
+fn put_parts(bytes: &mut [u8], mark: &mut Mark, parts: Parts, values: Values) -> Result<(), NoRoom>
+    ensures { Puts bytes.old mark.old.used (joined (parts_with parts.entry (given values.entry))) bytes.new mark.new.used result }
 {
-    let values = Values {
-        id: parts.id,
-        bandwidth: parts.bandwidth,
-        number,
-        time,
-    };
-    let at_template = expands_absolute(parts.template, values);
-    let at_representation = starts_anew(parts.representation, at_template);
-    let at_set = starts_anew(parts.set, at_representation);
-    let at_period = starts_anew(parts.period, at_set);
+    let bases = [parts.mpd, parts.period, parts.set, parts.representation];
+    let start = first_joined(&bases, expands_absolute(parts.template, values));
     let guard = Guard::hold(mark);
-    put(bytes, guard.mark, unless(at_period, parts.mpd))?;
-    put(bytes, guard.mark, unless(at_set, parts.period))?;
-    put(bytes, guard.mark, unless(at_representation, parts.set))?;
-    put(bytes, guard.mark, unless(at_template, parts.representation))?;
+    put_bases(bytes, guard.mark, &bases[start..])?;
     put_pieces(bytes, guard.mark, parts.template, values)?;
     guard.accept();
     Ok(())
 }
 
-// Whether the address starts anew at the base, or at a later part.
-fn starts_anew(base: Option<&[u8]>, later: bool) -> bool
-    ensures { result ≡ (absolute_in base.entry || later) }
+// The place from which base URLs are joined: behind them where the address starts anew later, else that of the last
+// absolute one, or the first where none is.
+fn first_joined(bases: &[Option<&[u8]>], later: bool) -> usize
+    ensures { JoinedFrom bases.now later result }
 {
-    match base {
-        Some(text) => is_absolute(text) || later,
-        None => later,
+    if later {
+        return bases.len();
     }
+    bases
+        .iter()
+        .rposition(|base| base.is_some_and(is_absolute))
+        .unwrap_or(0)
 }
 
-// The bytes of the base, none if it is absent or the address starts anew at a later part.
-fn unless<'a>(anew: bool, base: Option<&'a [u8]>) -> &'a [u8]
-    ensures { result.now ≡ kept anew base.entry }
+// Puts the base URLs that are present.
+fn put_bases(bytes: &mut [u8], mark: &mut Mark, bases: &[Option<&[u8]>]) -> Result<(), NoRoom>
+    ensures { Puts bytes.old mark.old.used (together (present bases.now)) bytes.new mark.new.used result }
 {
-    if anew {
-        return &[];
+    let guard = Guard::hold(mark);
+    for base in bases {
+        if let Some(text) = base {
+            put(bytes, guard.mark, text)?;
+        }
     }
-    match base {
-        Some(text) => text,
-        None => &[],
-    }
+    guard.accept();
+    Ok(())
 }
 
 // Whether the text starts with `http://` or `https://`.
-fn is_absolute(text: &[u8]) -> bool
+pub fn is_absolute(text: &[u8]) -> bool
     ensures { result ≡ absolute text.now }
 {
-    if text.starts_with(b"http://") {
-        return true;
-    }
-    text.starts_with(b"https://")
+    text.starts_with(b"http://") || text.starts_with(b"https://")
 }
 
-// Whether the expansion starts with `http://` or `https://`, of which it puts no more than 8 bytes.
+// Whether the expansion starts with `http://` or `https://`, which its first bytes say.
 fn expands_absolute(template: &[u8], values: Values) -> bool
-    ensures { result ≡ absolute (expansion template.now values.entry.id.now values.entry.bandwidth values.entry.number values.entry.time) }
+    ensures { result ≡ absolute (expanded template.now (given values.entry)) }
 {
-    let mut front = [0u8; 8];
+    is_absolute(&front(template, values))
+}
+
+// The first bytes of the expansion, zeros behind a shorter one.
+pub fn front(template: &[u8], values: Values) -> [u8; 8]
+    ensures { result ≡ front_of (expanded template.now (given values.entry)) }
+{
+    let mut bytes = [0u8; 8];
     let mut mark = Mark { used: 0 };
-    let _ = put_pieces(&mut front, &mut mark, template, values);
-    is_absolute(&front)
+    let _ = put_pieces(&mut bytes, &mut mark, template, values);
+    bytes
 }
 
 // Puts the meanings of the template's pieces.
@@ -176,13 +176,11 @@ fn put_pieces(
     template: &[u8],
     values: Values,
 ) -> Result<(), NoRoom>
-    ensures { Puts bytes.old mark.old.used (expansion template.now values.entry.id.now values.entry.bandwidth values.entry.number values.entry.time) bytes.new mark.new.used result }
+    ensures { Puts bytes.old mark.old.used (expanded template.now (given values.entry)) bytes.new mark.new.used result }
 {
     let guard = Guard::hold(mark);
-    let mut at = 0;
-    'pieces: while let Next::Piece(piece, end) = piece_at(template, at) {
+    'pieces: for piece in Pieces::of(template) {
         put_piece(bytes, guard.mark, piece, values)?;
-        at = end;
     }
     guard.accept();
     Ok(())
@@ -190,13 +188,14 @@ fn put_pieces(
 
 // Puts what the piece means.
 fn put_piece(bytes: &mut [u8], mark: &mut Mark, piece: Piece, values: Values) -> Result<(), NoRoom>
-    ensures { Puts bytes.old mark.old.used (meaning values.entry.id.now values.entry.bandwidth values.entry.number values.entry.time piece) bytes.new mark.new.used result }
+    ensures { Puts bytes.old mark.old.used (meaning (given values.entry) piece) bytes.new mark.new.used result }
 {
     match piece {
         Piece::Byte(byte) => put(bytes, mark, &[byte]),
         Piece::Dollar => put(bytes, mark, b"$"),
-        Piece::Value(identifier, None) => put_value(bytes, mark, identifier, 1, values),
-        Piece::Value(identifier, Some(width)) => put_value(bytes, mark, identifier, width, values),
+        Piece::Value(identifier, width) => {
+            put_value(bytes, mark, identifier, width.unwrap_or(1), values)
+        }
     }
 }
 
@@ -208,7 +207,7 @@ fn put_value(
     width: u8,
     values: Values,
 ) -> Result<(), NoRoom>
-    ensures { Puts bytes.old mark.old.used (value_text values.entry.id.now values.entry.bandwidth values.entry.number values.entry.time identifier width) bytes.new mark.new.used result }
+    ensures { Puts bytes.old mark.old.used (value_text (given values.entry) identifier width) bytes.new mark.new.used result }
 {
     match identifier {
         Identifier::RepresentationId => put(bytes, mark, values.id),

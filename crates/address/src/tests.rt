@@ -4,9 +4,13 @@ use super::*;
 fn expands_to(template: &[u8], number: u64, text: &[u8]) -> bool {
     let mut bytes = [0u8; 32];
     let mut mark = Mark { used: 0 };
-    let answer = put_expanded(
-        &mut bytes, &mut mark, template, b"v1", 4294967295, number, 20,
-    );
+    let values = Values {
+        id: b"v1",
+        bandwidth: 4294967295,
+        number,
+        time: 20,
+    };
+    let answer = put_expanded(&mut bytes, &mut mark, template, values);
     let end = mark.used.min(32);
     answer == Ok(()) && &bytes[0..end] == text
 }
@@ -150,8 +154,14 @@ fn long_id(rt: HostRuntime) {
     let mut bytes = *b".....";
     let mut mark = Mark { used: 1 };
     let full = Err(ExpandFault::NoRoom(NoRoom));
+    let values = Values {
+        id: &id,
+        bandwidth: 5,
+        number: 7,
+        time: 20,
+    };
     assert_eq!(rt;
-        put_expanded(&mut bytes, &mut mark, &template, &id, 5, 7, 20),
+        put_expanded(&mut bytes, &mut mark, &template, values),
         full
     );
     assert_eq!(rt; mark.used, 1);
@@ -159,7 +169,7 @@ fn long_id(rt: HostRuntime) {
     template[17999] = b'-';
     let broken = Err(ExpandFault::Broken);
     assert_eq!(rt;
-        put_expanded(&mut bytes, &mut mark, &template, &id, 5, 7, 20),
+        put_expanded(&mut bytes, &mut mark, &template, values),
         broken
     );
     assert_eq!(rt; mark.used, 1);

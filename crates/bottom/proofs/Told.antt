@@ -8,8 +8,11 @@ use Rattle.address.specs.declared.ExpandFault.{ExpandFault}
 use Rattle.address.specs.declared.Parts.{Parts}
 use Rattle.output.specs.Text.{Puts}
 use Rattle.output.specs.declared.NoRoom.{NoRoom}
+use Rattle.std.specs.Result.{MatchResult, IsErrAnd}
+use Rattle.std.proofs.lemmas.Result.{err_from_is_err_and}
+use Rattle.timeline.specs.declared.fault.AddressFault.{AddressFault}
 use Rattle.timeline.specs.Addresses.{raised, Addressing}
-use Rattle.bottom.specs.Placing.{unless, address_at, carried}
+use Rattle.bottom.specs.Placing.{unless, address_at, as_address_fault}
 use Rattle.timeline.specs.Segments.{told, blank}
 use Rattle.timeline.specs.Laws.Tellings.{told_at, told_past}
 use Rattle.timeline.specs.declared.fault.NoSuchPlace.{NoSuchPlace}
@@ -28,6 +31,18 @@ told_none xs i e h =
     (λ lt. let at = told_at xs i blank lt in let z : ◌≡◌ {A = ℕ} 0 1 = cc in absurd (omega arith))
     (λ le. le)
     (cases_lt i (length xs))
+
+-- the answer of a put, as one of an address
+abbrev pub carried : Result (Unit {0}) ExpandFault → Result (Unit {0}) AddressFault
+carried (Ok u) = Ok u
+carried (Err e) = Err (as_address_fault e)
+
+-- what `map_err` answers, where its closure takes each refusal for one of an address
+pub carried_on : (q : Result (Unit {0}) ExpandFault) (r : Result (Unit {0}) AddressFault) (P : ExpandFault → AddressFault → Type 0) →
+    MatchResult q (λ x. r ≡ Ok x) (λ e. IsErrAnd r (P e)) → ((e : ExpandFault) (d : AddressFault) → P e d → d ≡ as_address_fault e) →
+    r ≡ carried q
+carried_on (Ok u) r P h is = h
+carried_on (Err e) r P h is = let p = err_from_is_err_and r h in p.1 ∙ ap Err (is e p.0 p.2)
 
 carried_raised : (q : Result (Unit {0}) NoRoom) → carried (as_fault q) ≡ raised q
 carried_raised (Ok u) = refl

@@ -1,5 +1,5 @@
 -- The segments and addresses of a bottom timeline.
-use Rattle.std.specs.Prelude.{ℕ, Bool, true, false, List, [], Ok, Err, Result, slice_index_or}
+use Rattle.std.specs.Prelude.{ℕ, Bool, true, false, List, [], slice_index_or}
 use Rattle.std.proofs.Common.{arith}
 use Rattle.address.specs.Joining.{address_of}
 use Rattle.address.specs.declared.ExpandFault.{ExpandFault}
@@ -20,11 +20,10 @@ unless false xs = xs
 abbrev pub address_at : Parts → List Segment → ℕ → List ℕ
 address_at p xs place = address_of p (slice_index_or xs place blank).number (slice_index_or xs place blank).start
 
--- the answer of a put, as one of an address; a broken template has no places
-abbrev pub carried : Result (Unit {0}) ExpandFault → Result (Unit {0}) AddressFault
-carried (Ok u) = Ok u
-carried (Err Broken) = Err (missing no_such_place)
-carried (Err (FullOf e)) = Err (full e)
+-- the refusal of a put, as one of an address; a broken template has no places
+abbrev pub as_address_fault : ExpandFault → AddressFault
+as_address_fault Broken = missing no_such_place
+as_address_fault (FullOf e) = full e
 
 sound_none : Sound []
 sound_none = record { few = omega arith; limited = tt; order = λ i d h. absurd (omega arith) }

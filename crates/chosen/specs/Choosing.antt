@@ -1,5 +1,5 @@
 -- The chosen elements of a manifest, and what their three levels say.
-use Rattle.std.specs.Prelude.{ℕ, Bool, ◌&&◌, List, length, codes, Option, slice_index_or}
+use Rattle.std.specs.Prelude.{◌≡◌, ℕ, Bool, ◌&&◌, List, length, codes, None, Option, MatchOption, slice_index_or}
 use Rattle.std.specs.Option.{option_map, option_flatten, option_or}
 use Rattle.std.specs.List.{slice_get}
 use Rattle.rules.specs.Broken.{is, typed}
@@ -7,6 +7,8 @@ use Rattle.tables.specs.Zero.{no_element}
 use Rattle.tables.specs.declared.manifest.Attribute.{Attribute}
 use Rattle.tables.specs.declared.manifest.Element.{Element}
 use Rattle.tree.specs.Questions.{text_at, value_of, child_of, children_of, is_child_at, rows_from}
+use Rattle.tree.specs.Trees.{child_in}
+use Rattle.tree.specs.declared.Tree.{Tree}
 use Rattle.chosen.specs.declared.Chosen.{Chosen}
 
 module _ (m : List ℕ) (es : List Element) (xs : List Attribute) where
@@ -51,3 +53,11 @@ module _ (m : List ℕ) (es : List Element) (xs : List Attribute) where
   -- the base URL of an element: the text of its first BaseURL
   abbrev pub base_of : ℕ → Option (List ℕ)
   base_of e = option_map (text_at m es) (child_of m es e (codes "BaseURL"))
+
+-- the same of answers that are known by what the template may give
+module _ {X : Type 0} (t : Tree) (gives : ℕ → Option X → Type 0) where
+  abbrev pub AnswersAt : ℕ → Option X → Type 0
+  AnswersAt e answer = MatchOption (child_in t e (codes "SegmentTemplate")) (answer ≡ None) (λ template. gives template answer)
+
+  abbrev pub AnswersInnermost : Chosen → Option X → Type 0
+  AnswersInnermost c answer = (inner : Option X) × (middle : Option X) × (outer : Option X) × AnswersAt c.representation inner × AnswersAt c.set middle × AnswersAt c.period outer × (answer ≡ option_or (option_or inner middle) outer)

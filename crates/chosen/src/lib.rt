@@ -1,17 +1,33 @@
 // The Period and the Representation that are chosen, and what their three levels say.
 #![tactic(auto)]
 
-ghost use Rattle.std.specs.Prelude.{◌≡◌, codes};
+ghost use Rattle.std.specs.Prelude.{◌≡◌};
 ghost use Rattle.std.specs.Option.{option_map};
 ghost use Rattle.std.specs.List.{slice_get};
-ghost use Rattle.tree.specs.Questions.{value_of, child_of};
-ghost use Rattle.chosen.specs.Choosing.{is_static, is_representation_of, representations_of, chosen_at, chosen, at_level, templated, timeline_in, base_of};
+ghost use Rattle.tree.specs.Trees.{on};
+ghost use Rattle.chosen.specs.Choosing.{is_static, parent_of, is_representation_of, representations_of, chosen_at, chosen, AnswersAt, AnswersInnermost, templated, timeline_in, base_of};
 
+use rules::is_typed;
 use tables::same;
 use tree::Tree;
 
+// The position of a Period in the manifest and of a Representation in the Period, from 0.
+#[derive(Clone, Copy, Debug, PartialEq, Eq)]
+pub struct Positions {
+    pub period: usize,
+    pub representation: usize,
+}
+
+impl Positions {
+    // The first Period's first Representation.
+    pub const FIRST: Positions = Positions {
+        period: 0,
+        representation: 0,
+    };
+}
+
 // The rows of a Period, of an AdaptationSet in it and of a Representation in that.
-#[derive(Clone, Copy)]
+#[derive(Clone, Copy, Debug, PartialEq, Eq)]
 pub struct Chosen {
     pub period: usize,
     pub set: usize,
@@ -20,111 +36,88 @@ pub struct Chosen {
 
 // Whether the root is an MPD that is static. One that states no type is.
 pub fn is_static(tree: &Tree) -> bool
-    ensures { result ≡ is_static tree.now.manifest.now tree.now.elements.now tree.now.attributes.now }
+    ensures { result ≡ on is_static tree.now }
 {
-    if !same(tree.name(0), b"MPD") {
-        return false;
-    }
-    match tree.attribute(0, b"type") {
-        Some(value) => same(value, b"static"),
-        None => true,
-    }
+    same(tree.name(0), b"MPD") && is_typed(tree, 0, b"static")
 }
 
 // The Period at a position in the root, and the Representation at a position in that Period.
-pub fn choose(tree: &Tree, period: usize, representation: usize) -> Option<Chosen>
-    ensures { result ≡ chosen tree.now.manifest.now tree.now.elements.now tree.now.attributes.now period representation }
+pub fn choose(tree: &Tree, at: Positions) -> Option<Chosen>
+    ensures { result ≡ on chosen tree.now at.period at.representation }
 {
-    match tree.nth_child(0, b"Period", period) {
-        Some(row) => choose_in(tree, row, representation),
-        None => None,
-    }
+    let period = tree.nth_child(0, b"Period", at.period)?;
+    choose_in(tree, period, at.representation)
 }
 
 // The Representation at a position in the Period in the row.
 fn choose_in(tree: &Tree, period: usize, position: usize) -> Option<Chosen>
-    ensures { result ≡ option_map (chosen_at tree.now.manifest.now tree.now.elements.now tree.now.attributes.now period) (slice_get (representations_of tree.now.manifest.now tree.now.elements.now tree.now.attributes.now period) position) }
+    ensures { result ≡ option_map (on chosen_at tree.now period) (slice_get (on representations_of tree.now period) position) }
 {
-    let elements = tree.elements;
-    let mut before = 0;
-    'rows: for row in 0..elements.len() {
-        if is_representation(tree, period, row) {
-            if before == position {
-                return Some(Chosen {
-                    period,
-                    set: elements[row].parent,
-                    representation: row,
-                });
-            }
-            before += 1;
-        }
-    }
-    None
+    let representation = (0..tree.elements.len())
+        .filter(|row| is_representation(tree, period, *row))
+        .nth(position)?;
+    Some(Chosen {
+        period,
+        set: parent(tree, representation),
+        representation,
+    })
 }
 
 // Whether the row is that of a Representation in an AdaptationSet of the Period.
 fn is_representation(tree: &Tree, period: usize, row: usize) -> bool
-    ensures { result ≡ is_representation_of tree.now.manifest.now tree.now.elements.now tree.now.attributes.now period row }
+    ensures { result ≡ on is_representation_of tree.now period row }
 {
-    let elements = tree.elements;
-    if row >= elements.len() {
-        return false;
-    }
-    let set = elements[row].parent;
-    if !tree.is_child(row, set, b"Representation") {
-        return false;
-    }
-    tree.is_child(set, period, b"AdaptationSet")
+    let set = parent(tree, row);
+    tree.is_child(row, set, b"Representation") && tree.is_child(set, period, b"AdaptationSet")
 }
 
-// The attribute of the element's SegmentTemplate.
-fn attribute_at<'a>(tree: &Tree<'a, '_>, row: usize, name: &[u8]) -> Option<&'a [u8]>
-    ensures { option_map (λ x. x.now) result ≡ at_level tree.now.manifest.now tree.now.elements.now tree.now.attributes.now (λ t. value_of tree.now.manifest.now tree.now.attributes.now t name.now) row }
+// The row of the parent of the element in the row.
+fn parent(tree: &Tree, row: usize) -> usize
+    ensures { result ≡ on parent_of tree.now row }
 {
-    match tree.child(row, b"SegmentTemplate") {
-        Some(template) => tree.attribute(template, name),
-        None => None,
-    }
-}
-
-// The SegmentTimeline of the element's SegmentTemplate.
-fn timeline_at(tree: &Tree, row: usize) -> Option<usize>
-    ensures { result ≡ at_level tree.now.manifest.now tree.now.elements.now tree.now.attributes.now (λ t. child_of tree.now.manifest.now tree.now.elements.now t (codes "SegmentTimeline")) row }
-{
-    match tree.child(row, b"SegmentTemplate") {
-        Some(template) => tree.child(template, b"SegmentTimeline"),
-        None => None,
-    }
+    tree.elements.get(row).map_or(0, |element| element.parent)
 }
 
 // The base URL of the element in the row.
 pub fn base<'a>(tree: &Tree<'a, '_>, row: usize) -> Option<&'a [u8]>
-    ensures { option_map (λ x. x.now) result ≡ base_of tree.now.manifest.now tree.now.elements.now tree.now.attributes.now row }
+    ensures { option_map (λ x. x.now) result ≡ on base_of tree.now row }
 {
-    match tree.child(row, b"BaseURL") {
-        Some(base) => Some(tree.text(base)),
-        None => None,
-    }
+    let base = tree.child(row, b"BaseURL")?;
+    Some(tree.text(base))
+}
+
+// What the element's SegmentTemplate answers; its first one counts.
+fn at_level<T: Copy, F: Fn(usize) -> Option<T>>(tree: &Tree, row: usize, ask: &F) -> Option<T>
+    requires { F.IsAlwaysCallable ask.now }
+    ensures { AnswersAt tree.now (F.post ask.now) row result }
+{
+    tree.child(row, b"SegmentTemplate").and_then(ask)
 }
 
 impl Chosen {
     // An attribute of the template, from the innermost SegmentTemplate that has it.
     pub fn templated<'a>(&self, tree: &Tree<'a, '_>, name: &[u8]) -> Option<&'a [u8]>
-        ensures { option_map (λ x. x.now) result ≡ templated tree.now.manifest.now tree.now.elements.now tree.now.attributes.now self.now name.now }
+        ensures { option_map (λ x. x.now) result ≡ on templated tree.now self.now name.now }
     {
-        let inner = attribute_at(tree, self.representation, name);
-        let middle = attribute_at(tree, self.set, name);
-        let outer = attribute_at(tree, self.period, name);
-        inner.or(middle).or(outer)
+        self.innermost(tree, |template| tree.attribute(template, name))
     }
 
     // The SegmentTimeline, from the innermost SegmentTemplate that has one.
     pub fn timeline(&self, tree: &Tree) -> Option<usize>
-        ensures { result ≡ timeline_in tree.now.manifest.now tree.now.elements.now tree.now.attributes.now self.now }
+        ensures { result ≡ on timeline_in tree.now self.now }
     {
-        let inner = timeline_at(tree, self.representation);
-        let middle = timeline_at(tree, self.set);
-        let outer = timeline_at(tree, self.period);
+        self.innermost(tree, |template| tree.child(template, b"SegmentTimeline"))
+    }
+
+    // What the innermost SegmentTemplate answers that has an answer.
+    fn innermost<T: Copy, F: Fn(usize) -> Option<T>>(&self, tree: &Tree, ask: F) -> Option<T>
+        requires { F.IsAlwaysCallable ask }
+        ensures { AnswersInnermost tree.now (F.post ask) self.now result }
+    {
+        // All three levels are asked, since the promise speaks of what each of them answers.
+        let inner = at_level(tree, self.representation, &ask);
+        let middle = at_level(tree, self.set, &ask);
+        let outer = at_level(tree, self.period, &ask);
         inner.or(middle).or(outer)
     }
 }

@@ -2,7 +2,6 @@
 #![tactic(auto)]
 
 mod lines;
-mod obey;
 mod order;
 mod report;
 
@@ -10,16 +9,15 @@ ghost use Rattle.std.specs.Prelude.{◌≤◌};
 
 use anyhow::Context;
 use head::{Call, Head, HeadFault};
-use lines::{bare, line_end};
-use obey::obey;
-use order::{Order, order_of};
-use output::Mark;
+use lines::bare;
+use order::{NotACall, order_of};
+use output::{Mark, Output};
 use player::{Positions, open};
 use presentation::{Plan, lay_out};
 use report::put_report;
 use std::io::Write;
 use std::{env, fs, io};
-use tables::{Attribute, Element, Span, Table};
+use tables::{Attribute, Element, ManifestRows, Row, Table};
 use timeline::{Addressed, Run};
 
 const ROWS: usize = 1_024;
@@ -29,32 +27,6 @@ const LINE: usize = 65_536;
 
 // More bytes than what is said of a call ever has.
 const REPORT: usize = 64;
-
-const NOWHERE: Span = Span { at: 0, len: 0 };
-
-const NO_ELEMENT: Element = Element {
-    name: NOWHERE,
-    parent: 0,
-    level: 0,
-    text: NOWHERE,
-};
-
-const NO_ATTRIBUTE: Attribute = Attribute {
-    element: 0,
-    name: NOWHERE,
-    value: NOWHERE,
-};
-
-const NO_RUN: Run = Run {
-    start: 0,
-    length: 0,
-    count: 0,
-};
-
-const FIRST: Positions = Positions {
-    period: 0,
-    representation: 0,
-};
 
 // Prints the line as it was written, and behind it what is said of the call.
 fn print_report(
@@ -66,8 +38,12 @@ fn print_report(
     let mut bytes = [0u8; REPORT];
     let mut mark = Mark { used: 0 };
     let _ = put_report(&mut bytes, &mut mark, answer, place);
+    let out = Output {
+        bytes: &mut bytes,
+        mark,
+    };
     rt.stdout().write_all(line)?;
-    rt.stdout().write_all(&bytes[0..mark.used.min(bytes.len())])
+    rt.stdout().write_all(out.written())
 }
 
 // How long an address may be that stands behind the line and its report, with a comma, a space and LF.
@@ -77,14 +53,8 @@ fn room_beside(line: &[u8], place: Option<u32>) -> usize
     let mut bytes = [0u8; REPORT];
     let mut mark = Mark { used: 0 };
     let _ = put_report(&mut bytes, &mut mark, Ok(()), place);
-    let rest = line.len().saturating_add(mark.used).saturating_add(3);
-    LINE.saturating_sub(rest)
-}
-
-// Prints the address that was written, behind a comma and a space.
-fn print_address(rt: &HostRuntime, bytes: &[u8], mark: Mark) -> io::Result<()> {
-    rt.stdout().write_all(b", ")?;
-    rt.stdout().write_all(&bytes[0..mark.used.min(bytes.len())])
+    let rest = line.len().saturating_add(mark.used);
+    LINE.saturating_sub(rest.saturating_add(3))
 }
 
 // Has the head do what the call says, and prints its line.
@@ -96,13 +66,15 @@ fn print_call<T: Addressed>(
     call: Call,
 ) -> io::Result<()> {
     let mut bytes = [0u8; LINE];
-    let mut mark = Mark { used: 0 };
     let room = room_beside(line, head.place());
-    let lent = &mut bytes[0..room];
-    let answer = obey(timeline, head, call, lent, &mut mark);
+    let mut mark = Mark { used: 0 };
+    let lent = &mut bytes[..room];
+    let answer = head.obey(timeline, call, lent, &mut mark);
     print_report(rt, line, answer, head.place())?;
     if let (Call::Address, Ok(())) = (call, answer) {
-        print_address(rt, lent, mark)?;
+        let out = Output { bytes: lent, mark };
+        rt.stdout().write_all(b", ")?;
+        rt.stdout().write_all(out.written())?;
     }
     rt.stdout().write_all(b"\n")
 }
@@ -115,18 +87,13 @@ fn print_calls<T: Addressed>(
     list: &[u8],
 ) -> io::Result<()> {
     let mut head = Head::new(timescale);
-    let mut at = 0;
-    let mut number = 0usize;
-    'lines: while at < list.len() {
-        let end = line_end(list, at);
-        let line = bare(&list[at..end]);
-        number += 1;
+    for (index, line) in list.split(|byte| *byte == b'\n').enumerate() {
+        let line = bare(line);
         match order_of(line) {
-            Order::Call(call) => print_call(rt, timeline, &mut head, line, call)?,
-            Order::Blank => {}
-            Order::Unknown => println!(rt; "line {number}: not a call")?,
+            Ok(Some(call)) => print_call(rt, timeline, &mut head, line, call)?,
+            Ok(None) => {}
+            Err(NotACall) => println!(rt; "line {}: not a call", index.saturating_add(1))?,
         }
-        at = end + 1;
     }
     Ok(())
 }
@@ -144,13 +111,13 @@ fn print_opened<'a>(
 
 // Opens the manifest and tries the calls on the timeline of its first Period's first Representation.
 fn print_trial(rt: &HostRuntime, manifest: &[u8], list: &[u8]) -> io::Result<()> {
-    let mut element_rows = [NO_ELEMENT; ROWS];
-    let mut attribute_rows = [NO_ATTRIBUTE; ROWS];
-    let mut run_rows = [NO_RUN; ROWS];
-    let mut elements = Table::new(&mut element_rows);
-    let mut attributes = Table::new(&mut attribute_rows);
+    // The rows stand here, since a table only borrows them.
+    let mut element_rows = [Element::zeroed(); ROWS];
+    let mut attribute_rows = [Attribute::zeroed(); ROWS];
+    let mut run_rows = [Run::zeroed(); ROWS];
+    let mut rows = ManifestRows::new(&mut element_rows, &mut attribute_rows);
     let mut runs = Table::new(&mut run_rows);
-    match open(manifest, FIRST, &mut elements, &mut attributes, &mut runs) {
+    match open(manifest, Positions::FIRST, &mut rows, &mut runs) {
         Ok(plan) => print_opened(rt, plan, runs.rows(), list),
         Err(fault) => println!(rt; "refused {}", fault.number()),
     }

@@ -1,31 +1,19 @@
 // What a line of the list of calls says.
-ghost use Rattle.std.specs.Prelude.{◌≡◌, MatchOption};
+ghost use Rattle.std.specs.Prelude.{◌≡◌, Option, Result, MatchOption};
 ghost use Rattle.cue.specs.Orders.{blank, Says, Silent, Means};
 
 use head::Call;
 use values::whole;
 
-#[derive(Clone, Copy)]
-pub(crate) enum Order {
-    Call(Call),
-    Blank,
-    Unknown,
-}
+// A line that is no call.
+#[derive(Clone, Copy, Debug, PartialEq, Eq)]
+pub(crate) struct NotACall;
 
 // Whether the line has nothing but spaces and tabs.
 fn is_blank(line: &[u8]) -> bool
     ensures { result ≡ blank line.now }
 {
-    'bytes: for b in line {
-        if *b == b' ' {
-            continue;
-        }
-        if *b == b'\t' {
-            continue;
-        }
-        return false;
-    }
-    true
+    line.iter().all(|byte| *byte == b' ' || *byte == b'\t')
 }
 
 // The call that the line is.
@@ -41,25 +29,19 @@ fn call_of(line: &[u8]) -> Option<Call>
     if line == b"address".as_slice() {
         return Some(Call::Address);
     }
-    let Some(time) = line.strip_prefix(b"seek ") else {
-        return None;
-    };
-    match whole(time, 0, u64::MAX) {
-        Ok(ms) => Some(Call::Seek(ms)),
-        Err(_) => None,
-    }
+    let time = line.strip_prefix(b"seek ")?;
+    let ms = whole(time, 0, u64::MAX).ok()?;
+    Some(Call::Seek(ms))
 }
 
-// What the line says: the one thing that it means.
-pub(crate) fn order_of(line: &[u8]) -> Order
+// The call that the line is, none where it is blank: the one thing that it means.
+pub(crate) fn order_of(line: &[u8]) -> Result<Option<Call>, NotACall>
     ensures means { Means result line.now }
-    ensures only { (o : Order) → Means o line.now → result ≡ o }
+    ensures only { (o : Result (Option Call) NotACall) → Means o line.now → result ≡ o }
 {
     if is_blank(line) {
-        return Order::Blank;
+        return Ok(None);
     }
-    match call_of(line) {
-        Some(call) => Order::Call(call),
-        None => Order::Unknown,
-    }
+    let call = call_of(line).ok_or(NotACall)?;
+    Ok(Some(call))
 }

@@ -1,22 +1,9 @@
 // What is said of a call: what was answered, and where the head stands.
-ghost use Rattle.std.specs.Prelude.{◌++◌};
-ghost use Rattle.output.specs.Digits.{padded};
 ghost use Rattle.output.specs.Text.{Puts};
 ghost use Rattle.cue.specs.Reports.{answer_text, place_text, report};
 
 use head::HeadFault;
-use output::{Guard, Mark, NoRoom, put, put_number};
-
-// A word and a number behind it.
-fn put_counted(bytes: &mut [u8], mark: &mut Mark, word: &[u8], n: u64) -> Result<(), NoRoom>
-    ensures { Puts bytes.old mark.old.used (word.now ++ padded 1 n) bytes.new mark.new.used result }
-{
-    let guard = Guard::hold(mark);
-    put(bytes, guard.mark, word)?;
-    put_number(bytes, guard.mark, n, 1)?;
-    guard.accept();
-    Ok(())
-}
+use output::{Guard, Mark, NoRoom, put, put_labelled};
 
 fn put_answer(
     bytes: &mut [u8],
@@ -27,7 +14,7 @@ fn put_answer(
 {
     match answer {
         Ok(()) => put(bytes, mark, b" -> ok"),
-        Err(fault) => put_counted(bytes, mark, b" -> refused ", fault.number() as u64),
+        Err(fault) => put_labelled(bytes, mark, b" -> refused ", fault.number() as u64),
     }
 }
 
@@ -35,7 +22,7 @@ fn put_place(bytes: &mut [u8], mark: &mut Mark, place: Option<u32>) -> Result<()
     ensures { Puts bytes.old mark.old.used (place_text place) bytes.new mark.new.used result }
 {
     match place {
-        Some(place) => put_counted(bytes, mark, b", at ", place as u64),
+        Some(place) => put_labelled(bytes, mark, b", at ", place as u64),
         None => put(bytes, mark, b", nowhere"),
     }
 }

@@ -1,3 +1,2 @@
 pub mod Places
-mod Readings
 mod Walks

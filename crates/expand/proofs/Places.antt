@@ -1,7 +1,9 @@
 -- Where S elements stand one behind another, and the runs that they give.
-use Rattle.std.proofs.Common.{◌≡◌, ℕ, ◌*◌, ◌≤◌, Bool, true, false, ◌&&◌, ◌||◌, eqb, ltb, List, [], ◌∷◌, ℤ, pos, negsuc, refl, mul-le-mul_left, arith}
-use Rattle.std.proofs.lemmas.Bool.{and_from, or_parts, or_from, le-leb, eqb-false, ltb-false, le-ltb, ne_eqb, and_right, or_right}
+use Rattle.std.proofs.Common.{◌≡◌, ℕ, ◌*◌, ◌≤◌, Bool, true, false, not, ◌&&◌, ◌||◌, eqb, ltb, List, [], ◌∷◌, Some, None, Option, ℤ, pos, negsuc, refl, mul-le-mul_left, arith}
+use Rattle.std.specs.Bool.{then_some}
+use Rattle.std.proofs.lemmas.Bool.{and_from, or_parts, le-leb, eqb-false, ltb-false, true≢false}
 use Rattle.timeline.specs.Runs.{run_end, fair_run, fair_from}
+use Rattle.timeline.specs.declared.run.Run.{Run}
 use Rattle.expand.specs.Expanding.{count_of, start_of, run_of, runs_of, open_ended, some, misplaced_at, misplaced}
 use Rattle.expand.specs.declared.stated.Stated.{Stated}
 
@@ -15,10 +17,6 @@ pub few : (count length : ℕ) → 1 ≤ length → count ≤ count * length
 few count length h = omega (arith, mul-le-mul_left {m = 1} {n = length} count h)
 
 module _ (until from : ℕ) (s : Stated) where
-  -- an S that can stand there, but for what stands behind it
-  pub stands : (s.length ≡ 0 → ⊥) → from ≤ start_of from s → run_end (run_of until from s) ≤ 9007199254740992 → misplaced_at until from s [] ≡ false
-  stands long later within = or_from _ _ (ne_eqb _ _ long) (or_from _ _ (le-ltb _ _ later) (or_from _ _ (le-ltb _ _ within) (and_right (open_ended s.repeat) false refl)))
-
   -- what is true of one that can stand there
   pub record Standing : Type 0 where
     pub long : 1 ≤ s.length
@@ -34,31 +32,47 @@ module _ (until from : ℕ) (s : Stated) where
       let long = eqb-false s.length 0 a.0 in
       record { long = omega (arith, long); later = ltb-false (start_of from s) from b.0; within = ltb-false 9007199254740992 end c.0 }
 
--- whether one of the S cannot stand, where the one before repeats up to the end or not
-abbrev pub behind : Bool → ℕ → ℕ → List Stated → Bool
-behind endless until from ss = (endless && some ss) || misplaced until from ss
+-- whether one of the S cannot stand from there on; nowhere can one stand behind an S that repeats up to the end
+abbrev pub behind : ℕ → Option ℕ → List Stated → Bool
+behind until None ss = some ss
+behind until (Some from) ss = misplaced until from ss
 
--- one of three tests that do not hang on what stands behind, or none of them
-stopped : (a b c o t m : Bool) → (a || (b || (c || (o && false)))) ≡ true → ((a || (b || (c || (o && t)))) || m) ≡ true
-stopped a b c o t m h = grind arith
+-- their runs, if they can all stand
+abbrev pub runs_behind : ℕ → Option ℕ → List Stated → List Run
+runs_behind until None ss = []
+runs_behind until (Some from) ss = runs_of until from ss
 
-passed : (a b c o t m : Bool) → (a || (b || (c || (o && false)))) ≡ false → ((a || (b || (c || (o && t)))) || m) ≡ ((o && t) || m)
-passed a b c o t m h = grind arith
+-- from where on the next can stand
+abbrev pub free_behind : ℕ → ℕ → Stated → Option ℕ
+free_behind until from s = then_some (not (open_ended s.repeat)) (run_end (run_of until from s))
 
-module _ (endless : Bool) (until from : ℕ) (s : Stated) (ss : List Stated) where
-  -- behind one that repeats up to the end stands none
-  pub behind_open : endless ≡ true → behind endless until from (s ∷ ss) ≡ true
-  behind_open h = rw h refl
+-- behind the last stands none
+pub none_behind : (until : ℕ) (free : Option ℕ) → (behind until free [] ≡ false) × (runs_behind until free [] ≡ [])
+none_behind until None = (refl, refl)
+none_behind until (Some from) = (refl, refl)
 
-  -- the next cannot stand there
-  pub behind_misplaced : misplaced_at until from s [] ≡ true → behind endless until from (s ∷ ss) ≡ true
-  behind_misplaced h =
-      or_right (endless && true) _ (stopped (eqb s.length 0) (ltb (start_of from s) from) (ltb 9007199254740992 (run_end (run_of until from s))) (open_ended s.repeat) (some ss) (misplaced until (run_end (run_of until from s)) ss) h)
+module _ (until end : ℕ) where
+  -- three tests that do not hang on what stands behind, and whether an S repeats up to the end
+  passed : (a b c o : Bool) (ss : List Stated) → (a || (b || (c || (o && false)))) ≡ false → ((a || (b || (c || (o && some ss)))) || misplaced until end ss) ≡ behind until (then_some (not o) end) ss
+  passed a b c false ss h = grind arith
+  passed a b c true [] h = grind arith
+  passed a b c true (s ∷ ss) h = grind arith
+
+  made : (o : Bool) (ss : List Stated) → behind until (then_some (not o) end) ss ≡ false → runs_of until end ss ≡ runs_behind until (then_some (not o) end) ss
+  made false ss h = refl
+  made true [] h = refl
+  made true (s ∷ ss) h = absurd (true≢false h)
+
+module _ (until from : ℕ) (s : Stated) (ss : List Stated) where
+  abbrev end : ℕ
+  end = run_end (run_of until from s)
 
   -- the next can, and so it goes on
-  pub behind_on : endless ≡ false → misplaced_at until from s [] ≡ false → behind endless until from (s ∷ ss) ≡ behind (open_ended s.repeat) until (run_end (run_of until from s)) ss
-  behind_on h k =
-      rw h (passed (eqb s.length 0) (ltb (start_of from s) from) (ltb 9007199254740992 (run_end (run_of until from s))) (open_ended s.repeat) (some ss) (misplaced until (run_end (run_of until from s)) ss) k)
+  pub behind_on : misplaced_at until from s [] ≡ false → misplaced until from (s ∷ ss) ≡ behind until (free_behind until from s) ss
+  behind_on h = passed until end (eqb s.length 0) (ltb (start_of from s) from) (ltb 9007199254740992 end) (open_ended s.repeat) ss h
+
+  pub runs_on : behind until (free_behind until from s) ss ≡ false → runs_of until end ss ≡ runs_behind until (free_behind until from s) ss
+  runs_on = made until end (open_ended s.repeat) ss
 
 -- the runs of S that are not misplaced keep the rules
 pub fair_placed : (until from : ℕ) (ss : List Stated) → misplaced until from ss ≡ false → fair_from from (runs_of until from ss) ≡ true

@@ -2,6 +2,7 @@
 use Rattle.std.specs.Prelude.{ℕ, ◌+◌, ◌-◌, max, Bool, true, false, cond, not, ◌&&◌, ◌||◌, List, [], ◌∷◌, length, ℤ, pos, negsuc, Ok, Err, Result, ◌==◌, nat_lt}
 use Rattle.std.specs.Option.{unwrap_or}
 use Rattle.timeline.specs.Evenly.{ceiling}
+use Rattle.timeline.specs.Limits.{too_many}
 use Rattle.timeline.specs.Runs.{run_end, many}
 use Rattle.timeline.specs.declared.run.Run.{Run}
 use Rattle.expand.specs.declared.fault.RunFault.{RunFault}
@@ -47,18 +48,9 @@ abbrev pub misplaced : ℕ → ℕ → List Stated → Bool
 misplaced until from [] = false
 misplaced until from (s ∷ ss) = misplaced_at until from s ss || misplaced until (run_end (run_of until from s)) ss
 
--- whether n segments from the number `first` on are over a limit
-abbrev pub too_many : ℕ → ℕ → Bool
-too_many first n = nat_lt 2147483647 n || nat_lt 4294967296 (first + n)
-
 -- what comes of S elements, where the table of runs has `rows` rows: the first refusal that applies
 abbrev pub expanding : ℕ → ℕ → ℕ → List Stated → Result (Unit {0}) RunFault
 expanding until first rows ss =
     cond (not (some ss) || misplaced until 0 ss) (Err Misplaced)
     (cond (nat_lt rows (length ss)) (Err RunsFull)
     (cond (too_many first (many (runs_of until 0 ss))) (Err TooMany) (Ok tt)))
-
--- the runs that are left: none after a refusal
-abbrev pub runs_left : Result (Unit {0}) RunFault → List Run → List Run
-runs_left (Ok u) runs = runs
-runs_left (Err e) runs = []

@@ -36,3 +36,7 @@ module _ (m : List ℕ) (es : List Element) (xs : List Attribute) where
   abbrev pub asked_by : List ℕ → List Asked
   asked_by [] = []
   asked_by (row ∷ rows) = asked_of row ++ asked_by rows
+
+  -- what is read of all S of the SegmentTimeline in a row
+  abbrev pub asked_in : ℕ → List Asked
+  asked_in timeline = asked_by (rows_of timeline)

@@ -1,11 +1,12 @@
 // Where an S stands behind another, and how many segments it gives.
-ghost use Rattle.std.specs.Prelude.{◌≡◌, ◌+◌, ◌<◌, ◌≤◌, true, false, [], MatchResult};
+ghost use Rattle.std.specs.Prelude.{◌≡◌, ◌+◌, ◌<◌, ◌≤◌, true, false, [], IfOk, MatchResult};
 ghost use Rattle.timeline.specs.Runs.{run_end};
 ghost use Rattle.expand.specs.Expanding.{count_of, start_of, run_of, misplaced_at};
 ghost use Rattle.expand.specs.declared.fault.RunFault.TheVariants.{Misplaced};
 
 use crate::fault::RunFault;
-use crate::stated::{LATEST_END, Stated};
+use crate::stated::Stated;
+use timeline::LATEST_END;
 
 // The run of an S: its start, how many segments it has, and its end.
 #[derive(Clone, Copy)]
@@ -17,15 +18,16 @@ pub(crate) struct Placed {
 
 // The run of an S behind one that ends at `from`, if it can stand there.
 pub(crate) fn place(stated: Stated, from: u64, until: u128) -> Result<Placed, RunFault>
-    ensures { MatchResult result
-        (λ placed. (misplaced_at until from stated [] ≡ false) × (placed.start ≡ start_of from stated) × (placed.count ≡ (run_of until from stated).count) × (placed.end ≡ run_end (run_of until from stated)) × (0 < placed.count) × (from + placed.count ≤ placed.end) × (placed.end ≤ 9007199254740992))
+    ensures answer { MatchResult result
+        (λ _. misplaced_at until from stated [] ≡ false)
         (λ fault. (fault ≡ Misplaced) × (misplaced_at until from stated [] ≡ true)) }
+    ensures start { IfOk result (λ placed. placed.start ≡ start_of from stated) }
+    ensures count { IfOk result (λ placed. placed.count ≡ (run_of until from stated).count) }
+    ensures end { IfOk result (λ placed. placed.end ≡ run_end (run_of until from stated)) }
+    ensures within { IfOk result (λ placed. (0 < placed.count) × (from + placed.count ≤ placed.end) × (placed.end ≤ 9007199254740992)) }
 {
     let start = stated.time.unwrap_or(from);
-    if stated.length == 0 {
-        return Err(RunFault::Misplaced);
-    }
-    if start < from {
+    if stated.length == 0 || start < from {
         return Err(RunFault::Misplaced);
     }
     let count = count_of(stated, start, until);

@@ -1,36 +1,26 @@
 // From S elements to runs.
-ghost use Rattle.std.specs.Prelude.{◌≡◌, ℕ, ◌+◌, ◌≤◌, min, true, false, [], if◌then◌else◌, Ok, Err, MatchResult, OnOk};
-ghost use Rattle.tables.specs.Rows.{held, capacity, Clean};
-ghost use Rattle.timeline.specs.Runs.{no_run, many, fair_runs};
-ghost use Rattle.values.specs.Given.{some_unread};
-ghost use Rattle.expand.specs.Expanding.{expanding, runs_of, runs_left, misplaced, too_many};
-ghost use Rattle.expand.specs.Stating.{stated, rows_of, asked_by};
-ghost use Rattle.expand.specs.declared.fault.RunFault.TheVariants.{TooMany};
+ghost use Rattle.std.specs.Prelude.{◌≡◌, ◌+◌, min, true, [], OnOk};
+ghost use Rattle.tables.specs.Leaving.{Filled, Kept, left_after};
+ghost use Rattle.tables.specs.Rows.{held, capacity};
+ghost use Rattle.timeline.specs.Runs.{no_run, fair_runs};
+ghost use Rattle.tree.specs.Trees.{on};
+ghost use Rattle.values.specs.Given.{ReadsAll};
+ghost use Rattle.expand.specs.Expanding.{expanding, runs_of};
+ghost use Rattle.expand.specs.Stating.{stated, asked_in};
 
 use crate::fault::RunFault;
 use crate::place::{Placed, place};
 use crate::stated::{Stated, read_at, stated_at};
 use tables::Table;
-use timeline::Run;
+use timeline::{Run, is_too_many};
 use tree::Tree;
 use values::ValueFault;
 
-// The most segments of a timeline.
-const MOST_SEGMENTS: u64 = 2_147_483_647;
-
-// Every number is below this.
-const NUMBERS: u64 = 4_294_967_296;
-
 // Reads each S of the SegmentTimeline in the row.
 pub fn read_stated(tree: &Tree, timeline: usize) -> Result<(), ValueFault>
-    ensures { MatchResult result
-        (λ _. some_unread (asked_by tree.now.manifest.now tree.now.elements.now tree.now.attributes.now (rows_of tree.now.manifest.now tree.now.elements.now tree.now.attributes.now timeline)) ≡ false)
-        (λ _. some_unread (asked_by tree.now.manifest.now tree.now.elements.now tree.now.attributes.now (rows_of tree.now.manifest.now tree.now.elements.now tree.now.attributes.now timeline)) ≡ true) }
+    ensures { ReadsAll (on asked_in tree.now timeline) result }
 {
-    'rows: for row in 0..tree.elements.len() {
-        if !tree.is_child(row, timeline, b"S") {
-            continue;
-        }
+    'rows: for row in tree.children(timeline, b"S") {
         read_at(tree, row)?;
     }
     Ok(())
@@ -47,72 +37,54 @@ pub fn expand(
     first: u32,
     runs: &mut Table<Run>,
 ) -> Result<(), RunFault>
-    ensures answer { result ≡ expanding (offset + period) first (capacity runs.old) (stated tree.now.manifest.now tree.now.elements.now tree.now.attributes.now timeline) }
-    ensures runs { held runs.new ≡ runs_left result (runs_of (offset + period) 0 (stated tree.now.manifest.now tree.now.elements.now tree.now.attributes.now timeline)) }
+    ensures answer { result ≡ expanding (offset + period) first (capacity runs.old) (on stated tree.now timeline) }
+    ensures runs { Filled no_run runs.old (left_after result (runs_of (offset + period) 0 (on stated tree.now timeline))) runs.new }
     ensures fair { OnOk result (fair_runs first (held runs.new) ≡ true) }
-    ensures clean { Clean no_run runs.new }
-    ensures capacity { capacity runs.new ≡ capacity runs.old }
-    ensures lent { runs.new.rows.ghost_name ≡ runs.old.rows.ghost_name }
 {
     runs.clear();
     let until = u128::from(offset) + u128::from(period);
-    let total = match fill(tree, timeline, until, runs) {
-        Ok(total) => total,
-        Err(fault) => {
-            runs.clear();
-            return Err(fault);
-        }
-    };
-    if is_too_many(first, total) {
+    let answer = fill(tree, timeline, until, first, runs);
+    if answer.is_err() {
         runs.clear();
-        return Err(RunFault::TooMany);
     }
-    Ok(())
+    answer
 }
 
-// Whether segments from that first number on are over a limit.
-fn is_too_many(first: u32, total: u64) -> bool
-    ensures { result ≡ too_many first total }
-{
-    total > MOST_SEGMENTS || u64::from(first) + total > NUMBERS
-}
-
-// Puts a run for each S into the table, and counts their segments. A count that is over the limit
-// is cut to what its field holds.
-fn fill(tree: &Tree, timeline: usize, until: u128, runs: &mut Table<Run>) -> Result<u64, RunFault>
+// Puts a run for each S into the empty table.
+fn fill(
+    tree: &Tree,
+    timeline: usize,
+    until: u128,
+    first: u32,
+    runs: &mut Table<Run>,
+) -> Result<(), RunFault>
     requires { held runs.old ≡ [] }
-    ensures answer { MatchResult result
-        (λ total. (total ≡ many (runs_of until 0 (stated tree.now.manifest.now tree.now.elements.now tree.now.attributes.now timeline))) × (misplaced until 0 (stated tree.now.manifest.now tree.now.elements.now tree.now.attributes.now timeline) ≡ false) × ((first : ℕ) → expanding until first (capacity runs.old) (stated tree.now.manifest.now tree.now.elements.now tree.now.attributes.now timeline) ≡ (if too_many first total then Err TooMany else Ok tt)) × (total ≤ 2147483647 → held runs.new ≡ runs_of until 0 (stated tree.now.manifest.now tree.now.elements.now tree.now.attributes.now timeline)))
-        (λ fault. (first : ℕ) → expanding until first (capacity runs.old) (stated tree.now.manifest.now tree.now.elements.now tree.now.attributes.now timeline) ≡ Err fault) }
-    ensures clean { Clean no_run runs.old → Clean no_run runs.new }
-    ensures capacity { capacity runs.new ≡ capacity runs.old }
-    ensures lent { runs.new.rows.ghost_name ≡ runs.old.rows.ghost_name }
+    ensures answer { result ≡ expanding until first (capacity runs.old) (on stated tree.now timeline) }
+    ensures runs { OnOk result (held runs.new ≡ runs_of until 0 (on stated tree.now timeline)) }
+    ensures fair { OnOk result (fair_runs first (held runs.new) ≡ true) }
+    ensures kept { Kept runs.old runs.new }
 {
-    let mut end: u64 = 0;
-    let mut total: u64 = 0;
-    let mut endless = false;
-    let mut full = false;
-    'rows: for row in 0..tree.elements.len() {
-        if !tree.is_child(row, timeline, b"S") {
-            continue;
-        }
-        if endless {
-            return Err(RunFault::Misplaced);
-        }
+    // From where on the next S may stand: nowhere behind one that repeats up to the end.
+    let mut free = Some(0);
+    let mut total = 0;
+    // Not handed on by `?` at once: that a later S is misplaced comes before a full table.
+    let mut pushed = Ok(());
+    'rows: for row in tree.children(timeline, b"S") {
+        let from = free.ok_or(RunFault::Misplaced)?;
         let stated = stated_at(tree, row);
-        let placed = place(stated, end, until)?;
-        full = runs.push(run_of(stated, placed)).is_err();
-        end = placed.end;
+        let placed = place(stated, from, until)?;
+        pushed = runs.push(run_of(stated, placed));
+        free = (!stated.is_endless()).then_some(placed.end);
         total += placed.count;
-        endless = stated.is_endless();
     }
     if total == 0 {
         return Err(RunFault::Misplaced);
     }
-    if full {
-        return Err(RunFault::RunsFull);
+    pushed?;
+    if is_too_many(first, total) {
+        return Err(RunFault::TooMany);
     }
-    Ok(total)
+    Ok(())
 }
 
 // The run of an S, its count cut to what the field holds.

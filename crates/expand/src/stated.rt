@@ -1,20 +1,17 @@
 // An S element as it is written.
-ghost use Rattle.std.specs.Prelude.{◌≡◌, true, false, codes, MatchResult};
-ghost use Rattle.tree.specs.Questions.{value_of};
-ghost use Rattle.values.specs.Given.{present, some_unread};
-ghost use Rattle.values.specs.Repeat.{repeat_of};
+ghost use Rattle.std.specs.Prelude.{◌≡◌};
+ghost use Rattle.tree.specs.Trees.{on, value_in};
+ghost use Rattle.values.specs.Given.{present, ReadsAll};
 ghost use Rattle.values.specs.Whole.{whole_in};
 ghost use Rattle.expand.specs.Expanding.{open_ended};
 ghost use Rattle.expand.specs.Stating.{stated_at, asked_of};
 
+use timeline::LATEST_END;
 use tree::Tree;
 use values::{ValueFault, repeat_if, whole_if};
 
-// The latest tick.
-pub(crate) const LATEST_END: u64 = 9_007_199_254_740_992;
-
-// Its t, d and r. Without r it has 0.
-#[derive(Clone, Copy)]
+// Its t, d and r. Without r it has 0, and so without d: an S of length 0 is refused just as one that has none.
+#[derive(Clone, Copy, Debug, PartialEq, Eq)]
 pub struct Stated {
     pub time: Option<u64>,
     pub length: u64,
@@ -32,49 +29,31 @@ impl Stated {
 
 // The S in the row. What cannot be read is as if it were absent.
 pub(crate) fn stated_at(tree: &Tree, row: usize) -> Stated
-    ensures { result ≡ stated_at tree.now.manifest.now tree.now.elements.now tree.now.attributes.now row }
+    ensures { result ≡ on stated_at tree.now row }
 {
-    let time = ticks(tree, row, b"t");
-    let length = ticks(tree, row, b"d").unwrap_or(0);
-    let repeat = repeats(tree, row).unwrap_or(0);
+    let repeat = repeat_if(tree.attribute(row, b"r")).ok().flatten();
     Stated {
-        time,
-        length,
-        repeat,
+        time: ticks(tree, row, b"t"),
+        length: ticks(tree, row, b"d").unwrap_or(0),
+        repeat: repeat.unwrap_or(0),
     }
 }
 
-// The whole number that an attribute of the S is.
+// The tick that an attribute of the S is.
 fn ticks(tree: &Tree, row: usize, name: &[u8]) -> Option<u64>
-    ensures { result ≡ present (whole_in 0 9007199254740992) (value_of tree.now.manifest.now tree.now.attributes.now row name.now) }
+    ensures { result ≡ present (whole_in 0 9007199254740992) (value_in tree.now row name.now) }
 {
-    match whole_if(tree.attribute(row, name), 0, LATEST_END) {
-        Ok(number) => number,
-        Err(_) => None,
-    }
-}
-
-// The repeat count that the S has.
-fn repeats(tree: &Tree, row: usize) -> Option<i32>
-    ensures { result ≡ present repeat_of (value_of tree.now.manifest.now tree.now.attributes.now row (codes "r")) }
-{
-    match repeat_if(tree.attribute(row, b"r")) {
-        Ok(count) => count,
-        Err(_) => None,
-    }
+    whole_if(tree.attribute(row, name), 0, LATEST_END)
+        .ok()
+        .flatten()
 }
 
 // Reads the values of the S in the row.
 pub(crate) fn read_at(tree: &Tree, row: usize) -> Result<(), ValueFault>
-    ensures { MatchResult result
-        (λ _. some_unread (asked_of tree.now.manifest.now tree.now.elements.now tree.now.attributes.now row) ≡ false)
-        (λ _. some_unread (asked_of tree.now.manifest.now tree.now.elements.now tree.now.attributes.now row) ≡ true) }
+    ensures { ReadsAll (on asked_of tree.now row) result }
 {
     whole_if(tree.attribute(row, b"t"), 0, LATEST_END)?;
-    let length = whole_if(tree.attribute(row, b"d"), 0, LATEST_END)?;
-    if length.is_none() {
-        return Err(ValueFault::NoWholeNumber);
-    }
+    whole_if(tree.attribute(row, b"d"), 0, LATEST_END)?.ok_or(ValueFault::NoWholeNumber)?;
     repeat_if(tree.attribute(row, b"r"))?;
     Ok(())
 }

@@ -1,17 +1,21 @@
 -- The lines of a listing, and how they are put.
-use Rattle.std.proofs.Common.{◌≡◌, ℕ, zero, suc, ◌+◌, ◌-◌, ◌<◌, List, [], ◌∷◌, ◌++◌, length, get_or, Ok, Err, codes, Result, sym, refl, ap, ◌∙◌, subst, append_assoc, arith}
+use Rattle.std.proofs.Common.{◌≡◌, ℕ, zero, suc, ◌+◌, ◌<◌, List, [], ◌∷◌, ◌++◌, length, get_or, slice_get, IsErrAnd, Some, Ok, Err, codes, Result, sym, refl, ap, ◌∙◌, subst, append_assoc, arith}
+use Rattle.std.proofs.lemmas.Option.{slice_get_within, get_or_from_slice_get}
+use Rattle.std.proofs.lemmas.Result.{err_from_is_err_and}
 use Rattle.bottom.proofs.Told.{told_some, told_none}
 use Rattle.output.specs.Digits.{padded}
 use Rattle.output.specs.Text.{Puts}
 use Rattle.output.specs.declared.NoRoom.{NoRoom}
+use Rattle.timeline.proofs.Writes.{moved}
 use Rattle.timeline.specs.Addresses.{Addressing, raised}
 use Rattle.timeline.specs.Segments.{told, blank}
 use Rattle.timeline.specs.declared.fault.AddressFault.{AddressFault}
 use Rattle.timeline.specs.declared.fault.AddressFault.TheVariants.{NoSuchPlace as missing, NoRoom as full}
 use Rattle.timeline.specs.declared.fault.NoSuchPlace.{NoSuchPlace}
 use Rattle.timeline.specs.declared.segment.Segment.{Segment}
-use Rattle.full_listing.specs.Lines.{text, segment_text, segment_lines, timeline_lines}
-use Rattle.full_listing.specs.declared.line.Line.TheVariants.{Findings, Segments}
+use Rattle.listing.specs.Lines.{text}
+use Rattle.listing.specs.declared.line.Line.TheVariants.{Findings, Segments}
+use Rattle.full_listing.specs.Lines.{segment_text, segment_lines, timeline_lines}
 
 -- the fields before the address
 abbrev pub times : Segment → List ℕ
@@ -57,21 +61,19 @@ module _ {count i used used' : ℕ} {text bytes bytes' : List ℕ} where
         | Err d ↦ λ p e. (d, p, (cc))
       ] h.1 h.2
 
--- a line that is at the place, and its put
-module _ (ls : List (List ℕ)) (i : ℕ) (t : List ℕ) where
-  pub at_line : {bytes bytes' : List ℕ} {used used' : ℕ} {q : Result (Unit {0}) NoRoom} {r : Result (Unit {0}) AddressFault} → i < length ls → t ≡ get_or ls i [] → Puts bytes used t bytes' used' q → r ≡ raised q → Addressing (length ls) i (get_or ls i []) bytes used bytes' used' r
-  at_line {bytes} {bytes'} {used} {used'} {q} lt e puts answer = record {
-    there = λ h. (q, subst (λ x. Puts bytes used x bytes' used' q) e puts, answer);
-    past = λ h. absurd (omega arith);
+-- a line that is at the place: put, or refused for want of room
+module _ (ls : List (List ℕ)) (i : ℕ) {t bytes bytes' : List ℕ} {used used' : ℕ} (at : slice_get ls i ≡ Some t) where
+  at_line : {q : Result (Unit {0}) NoRoom} {r : Result (Unit {0}) AddressFault} → Puts bytes used t bytes' used' q → r ≡ raised q → Addressing (length ls) i (get_or ls i []) bytes used bytes' used' r
+  at_line {q} puts answer = record {
+    there = λ h. (q, subst (λ x. Puts bytes used x bytes' used' q) (sym (get_or_from_slice_get ls i t [] at)) puts, answer);
+    past = λ h. let lt = slice_get_within ls i t at in absurd (omega arith);
   }
 
-pub at_first : (x : List ℕ) (xs : List (List ℕ)) (i : ℕ) → i ≡ 0 → get_or (x ∷ xs) i [] ≡ x
-at_first x xs zero e = refl
-at_first x xs (suc i) e = absurd (omega arith)
+  pub put_there : {u v : Unit {0}} → Puts bytes used t bytes' used' (Ok u) → Addressing (length ls) i (get_or ls i []) bytes used bytes' used' (Ok v)
+  put_there puts = at_line puts refl
 
-pub at_next : (x : List ℕ) (xs : List (List ℕ)) (i : ℕ) → 0 < i → get_or (x ∷ xs) i [] ≡ get_or xs (i - 1) []
-at_next x xs zero h = absurd (omega arith)
-at_next x xs (suc i) h = ap (λ n. get_or xs n []) (let e : i ≡ suc i - 1 = omega arith in e)
+  pub full_there : {e : NoRoom} {r : Result (Unit {0}) AddressFault} → Puts bytes used t bytes' used' (Err e) → IsErrAnd r (λ f. f ≡ full e) → Addressing (length ls) i (get_or ls i []) bytes used bytes' used' r
+  full_there {r = r} puts err = let p = err_from_is_err_and r err in at_line puts (p.1 ∙ ap Err p.2)
 
 module _ (address : ℕ → List ℕ) where
   pub length-lines : (k : ℕ) (xs : List Segment) → length (segment_lines address k xs) ≡ length xs
@@ -84,6 +86,19 @@ module _ (address : ℕ → List ℕ) where
   get_or-lines k (x ∷ xs) (suc i) h =
       get_or-lines (k + 1) xs i (omega arith)
       ∙ ap (λ n. segment_text (get_or xs i blank) (address n)) (let e : k + 1 + i ≡ k + suc i = omega arith in e)
+
+-- the line of a segment, two places behind the place of the segment
+module _ (xs : List Segment) (address : ℕ → List ℕ) (i k : ℕ) (e : i ≡ suc (suc k)) where
+  pub segment_at : {bytes bytes' : List ℕ} {used used' : ℕ} {r : Result (Unit {0}) AddressFault} → Addressing (length xs) k (segment_text (get_or xs k blank) (address k)) bytes used bytes' used' r → Addressing (length (timeline_lines xs address)) i (get_or (timeline_lines xs address) i []) bytes used bytes' used' r
+  segment_at {bytes} {bytes'} {used} {used'} {r} w =
+      let long = length-lines address 0 xs in
+      rw e
+      (moved (length xs) (suc (suc (length (segment_lines address 0 xs)))) k (suc (suc k)) (segment_text (get_or xs k blank) (address k)) (get_or (segment_lines address 0 xs) k []) bytes bytes' used used' r (λ h. omega arith) (λ h. omega arith)
+      (λ h.
+      let of = get_or-lines address 0 xs k (omega arith) in
+      let from : 0 + k ≡ k = omega arith in
+      sym (of ∙ ap (λ n. segment_text (get_or xs k blank) (address n)) from))
+      w)
 
 module _ (f g : ℕ → List ℕ) where
   lines_same : (k : ℕ) (xs : List Segment) → ((i : ℕ) → i < length xs → f (k + i) ≡ g (k + i)) → segment_lines f k xs ≡ segment_lines g k xs

@@ -5,7 +5,8 @@ use Rattle.address.specs.Joining.{joined, part_in, parts_of, address_of}
 use Rattle.address.specs.declared.Parts.{Parts}
 use Rattle.presentation.specs.Lists.{bottom_of, timeline_of, addresses_of}
 use Rattle.presentation.specs.declared.plan.Plan.{Plan}
-use Rattle.resolve.specs.Values.{texts_of, part_by, parts_by, values_of, bottom_by, timeline_by, address_by}
+use Rattle.resolve.proofs.Addresses.{same_address}
+use Rattle.resolve.specs.Values.{texts_of, part_by, parts_by, values_of, bottom_by, Whole, timeline_by, address_by}
 use Rattle.timeline.specs.Layers.{shifted, cut_off}
 use Rattle.timeline.specs.Segments.{blank, ended_by}
 use Rattle.timeline.specs.declared.run.Run.{Run}
@@ -13,24 +14,12 @@ use Rattle.timeline.specs.declared.segment.Segment.{Segment}
 use Rattle.full_listing.specs.Lines.{timeline_lines}
 use Rattle.full_listing.proofs.Lines.{timelines_same}
 
-part_same : (o : Option (Bor (List ℕ))) → part_in o ≡ part_by (option_map (λ x. x.now) o)
-part_same None = refl
-part_same (Some text) = refl
-
-parts_same : (p : Parts) (number time : ℕ) → parts_of p number time ≡ parts_by (texts_of p) number time
-parts_same p number time =
-    let a = part_same p.mpd in
-    let b = part_same p.period in
-    let d = part_same p.set in
-    let e = part_same p.representation in
-    cc
-
-module _ (p : Plan) (runs : List Run) (whole : bottom_of p runs ≡ bottom_by (values_of p) runs) where
+module _ (p : Plan) (runs : List Run) (whole : Whole p runs) where
   address_same : (place : ℕ) → addresses_of p runs place ≡ address_by (values_of p) runs place
   address_same place =
       let at = λ (xs : List Segment). get_or xs (ended_by xs p.offset + place) blank in
       ap (λ xs. address_of p.parts (at xs).number (at xs).start) whole
-      ∙ ap joined (parts_same p.parts (at (bottom_by (values_of p) runs)).number (at (bottom_by (values_of p) runs)).start)
+      ∙ same_address p.parts (at (bottom_by (values_of p) runs)).number (at (bottom_by (values_of p) runs)).start
 
   pub plan_lines : timeline_lines (timeline_of p runs) (addresses_of p runs) ≡ timeline_lines (timeline_by (values_of p) runs) (address_by (values_of p) runs)
   plan_lines =

@@ -2,6 +2,7 @@
 use Rattle.std.specs.Prelude.{◌≡◌, ℕ, ◌<◌, ◌≤◌, Bool, true, false, List, [], length, take, Ok, Result, nat_le, slice_index_or}
 use Rattle.output.specs.Text.{room, after, Puts}
 use Rattle.output.specs.declared.NoRoom.{NoRoom}
+use Rattle.output.specs.declared.Output.{Output}
 use Rattle.full_listing.specs.Lines.{no_room_text, printed}
 use Rattle.full_listing.specs.declared.printing.Printed.{Printed}
 use Rattle.full_listing.specs.declared.printing.Printed.TheVariants.{Line, Last, End}
@@ -31,3 +32,9 @@ Answers lines place written r = (written ≡ slice_index_or lines place []) × (
 abbrev pub Lawful : List (List ℕ) → ℕ → List ℕ → ℕ → List ℕ → ℕ → Printed → Type 0
 Lawful lines place bytes used bytes' used' r =
     used ≡ 0 → 11 ≤ length bytes → Before (length bytes) lines place → Answers (printed (length bytes) lines) place (take used' bytes') r
+
+-- both of an output before and after, which stays over the bytes that it was lent
+pub record Written (lines : List (List ℕ)) (place : ℕ) (o p : Output) (r : Printed) : Type 0 where
+  pub lent : p.bytes.ghost_name ≡ o.bytes.ghost_name
+  pub prints : Prints lines place o.bytes.now o.mark.used p.bytes.now p.mark.used r
+  pub law : Lawful lines place o.bytes.now o.mark.used p.bytes.now p.mark.used r

@@ -1,36 +1,28 @@
 // The refusals that end a listing before its first other line.
 ghost use Rattle.std.specs.Prelude.{◌≡◌};
 ghost use Rattle.full_listing.specs.Numbers.{number};
-ghost use Rattle.full_listing.specs.declared.fault.ListFault.TheVariants.{Read, Check, Resolve};
+ghost use Rattle.full_listing.specs.declared.fault.ListFault.TheVariants.{Survey, Resolve};
 
-use reader::ReadFault;
 use resolve::ResolveFault;
-use rules::CheckFault;
 
 // Why a manifest is not listed: the refusal of the step that refused it, whole.
 #[derive(Clone, Copy)]
 pub enum ListFault {
-    Read(ReadFault),
-    Check(CheckFault),
+    // By reading or check.
+    Survey(listing::ListFault),
     Resolve(ResolveFault),
 }
 
-impl From<ReadFault> for ListFault {
-    ghost from_gives = { λ e r. r ≡ Read e };
+// By hand, so that a clause can name what `?` makes.
+impl From<listing::ListFault> for ListFault {
+    ghost from_gives = { λ e r. r ≡ Survey e };
 
-    fn from(e: ReadFault) -> ListFault {
-        ListFault::Read(e)
+    fn from(e: listing::ListFault) -> ListFault {
+        ListFault::Survey(e)
     }
 }
 
-impl From<CheckFault> for ListFault {
-    ghost from_gives = { λ e r. r ≡ Check e };
-
-    fn from(e: CheckFault) -> ListFault {
-        ListFault::Check(e)
-    }
-}
-
+// By hand, so that a clause can name what `?` makes.
 impl From<ResolveFault> for ListFault {
     ghost from_gives = { λ e r. r ≡ Resolve e };
 
@@ -45,8 +37,7 @@ impl ListFault {
         ensures { result ≡ number self }
     {
         match self {
-            ListFault::Read(fault) => fault.number(),
-            ListFault::Check(fault) => fault.number(),
+            ListFault::Survey(fault) => fault.number(),
             ListFault::Resolve(fault) => fault.number(),
         }
     }

@@ -2,11 +2,10 @@
 #![tactic(auto)]
 
 mod fault;
-mod line;
 mod printing;
 mod segments;
 mod surveying;
 
 pub use fault::ListFault;
-pub use printing::{Printed, write_line};
+pub use printing::{Listing, Printed};
 pub use surveying::survey;

@@ -7,7 +7,7 @@ ghost use Rattle.timeline.specs.Segments.{blank};
 ghost use Rattle.presentation.specs.Lists.{timeline_of, addresses_of};
 ghost use Rattle.full_listing.specs.Lines.{segment_text, timeline_lines};
 
-use crate::line::{Line, put_line, raise};
+use listing::{Line, put_line};
 use output::{Guard, Mark, NoRoom, put, put_number};
 use presentation::{Plan, lay_out};
 use timeline::{AddressFault, Addressed, NoSuchPlace, Run, Segment, Timeline};
@@ -68,17 +68,15 @@ fn put_laid<T: Addressed>(
         (slice_index_or (timeline_lines (T.Timeline.segments timeline.now) (T.Addressed.address timeline.now)) place [])
         bytes.old mark.old.used bytes.new mark.new.used result }
 {
-    if place == 0 {
-        return raise(put_line(bytes, mark, Line::Findings(0)));
+    let before = match place {
+        0 => return Ok(put_line(bytes, mark, Line::Findings(0))?),
+        1 => return Ok(put_line(bytes, mark, Line::Segments(timeline.count() as u64))?),
+        _ => place - 2,
+    };
+    match u32::try_from(before) {
+        Ok(before) => put_segment(bytes, mark, timeline, before),
+        Err(_) => Err(AddressFault::NoSuchPlace(NoSuchPlace)),
     }
-    if place == 1 {
-        return raise(put_line(bytes, mark, Line::Segments(timeline.count() as u64)));
-    }
-    let before = place - 2;
-    if before > u32::MAX as u64 {
-        return Err(AddressFault::NoSuchPlace(NoSuchPlace));
-    }
-    put_segment(bytes, mark, timeline, before as u32)
 }
 
 // The same of the timeline that the plan and its runs give.

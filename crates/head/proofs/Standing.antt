@@ -8,10 +8,9 @@ use Rattle.head.specs.declared.fault.HeadFault.TheVariants.{OutOfRange, NoneCove
 use Rattle.head.specs.declared.step.Call.{Call}
 use Rattle.head.specs.declared.step.Call.TheVariants.{Seek, On, Back, Address}
 use Rattle.head.specs.Heads.{Way, to, refused, seekable, tick_of, sought, onward, backward, reply, arrived, Covered, Seeks}
-use Rattle.head.specs.Sequences.{Event, went_through, is_seek, is_on, is_back, Stands, Output, Obeys, left_at}
+use Rattle.head.specs.Sequences.{Event, went_through, is_seek, is_on, is_back, through, Moves, Stands, Output, Obeys, left_at}
 use Rattle.head.proofs.Covers.{cover_cases}
 use Rattle.head.proofs.Seeking.{in_range, out_of_range}
-use Rattle.head.proofs.Writing.{apart, same}
 use Rattle.head.proofs.Events.{through_more, through_same}
 
 way_cases : (w : Way) → ((p : ℕ) × (w ≡ to p)) ⊎ ((e : HeadFault) × (w ≡ refused e))
@@ -24,9 +23,9 @@ module _ (xs : List Segment) (at p : ℕ) (there : at < length xs) where
       elim (cases_Bool (ltb (at + 1) (length xs))) [
         | inl yes' ↦
             let w : to (at + 1) ≡ to p = rw (lt-ltb at (length xs) there, yes') at e in
-            let s : at + 1 ≡ p = same (to p) (at + 1) p (sym w) refl in
+            let s : at + 1 ≡ p = cc in
             (sym s, rw s at (ltb-true (at + 1) (length xs) yes'))
-        | inr no' ↦ let w : refused NoNeighbour ≡ to p = rw (lt-ltb at (length xs) there, no') at e in absurd (apart (refused NoNeighbour) p NoNeighbour w refl)
+        | inr no' ↦ let w : refused NoNeighbour ≡ to p = rw (lt-ltb at (length xs) there, no') at e in absurd (cc)
       ]
 
   previous_place : backward xs (Some at) ≡ to p → (at ≡ p + 1) × (p < length xs)
@@ -34,77 +33,58 @@ module _ (xs : List Segment) (at p : ℕ) (there : at < length xs) where
       elim (cases_Bool (ltb 0 at)) [
         | inl yes' ↦
             let w : to (at - 1) ≡ to p = rw (lt-ltb at (length xs) there, yes') at e in
-            let s : at - 1 ≡ p = same (to p) (at - 1) p (sym w) refl in
+            let s : at - 1 ≡ p = cc in
             let some = ltb-true 0 at yes' in
             (omega arith, omega arith)
-        | inr no' ↦ let w : refused NoNeighbour ≡ to p = rw (lt-ltb at (length xs) there, no') at e in absurd (apart (refused NoNeighbour) p NoNeighbour w refl)
+        | inr no' ↦ let w : refused NoNeighbour ≡ to p = rw (lt-ltb at (length xs) there, no') at e in absurd (cc)
       ]
 
 module _ (xs : List Segment) (timescale : ℕ) (es : List Event) (place : Option ℕ) (now' : Stands xs timescale es place) where
+  -- one more event since the seek, with the place that it leaves
+  further : (m : Moves xs timescale es place) (e : Event) (p : ℕ) → (is_seek e.call && went_through e.answer) ≡ false → p + through is_back (m.since ++ (e ∷ [])) ≡ m.found + through is_on (m.since ++ (e ∷ [])) → p < length xs → Stands xs timescale (es ++ (e ∷ [])) (Some p)
+  further m e p seek sum there =
+      inr record {
+        before = m.before;
+        ms = m.ms;
+        since = m.since ++ (e ∷ []);
+        found = m.found;
+        at = p;
+        split = ap (λ l. l ++ (e ∷ [])) m.split ∙ append_assoc m.before (record { call = Seek m.ms; answer = Ok tt; place = Some m.found } ∷ m.since) (e ∷ []);
+        last = through_same is_seek m.since e seek ∙ m.last;
+        covered = m.covered;
+        stands = refl;
+        sum = sum;
+        there = there;
+      }
+
   -- an event that moves nothing
   stays : (e : Event) → (is_seek e.call && went_through e.answer) ≡ false → (is_on e.call && went_through e.answer) ≡ false → (is_back e.call && went_through e.answer) ≡ false → Stands xs timescale (es ++ (e ∷ [])) place
   stays e seek on back =
       elim now' [
         | inl n ↦ inl (through_same is_seek es e seek ∙ n.0, n.1)
-        | inr m ↦ inr record {
-          before = m.before;
-          ms = m.ms;
-          since = m.since ++ (e ∷ []);
-          found = m.found;
-          at = m.at;
-          split = ap (λ l. l ++ (e ∷ [])) m.split ∙ append_assoc m.before (record { call = Seek m.ms; answer = Ok tt; place = Some m.found } ∷ m.since) (e ∷ []);
-          last = through_same is_seek m.since e seek ∙ m.last;
-          covered = m.covered;
-          stands = m.stands;
-          sum = rw (through_same is_back m.since e back, through_same is_on m.since e on) m.sum;
-          there = m.there;
-        }
+        | inr m ↦ subst (λ q. Stands xs timescale (es ++ (e ∷ [])) q) (sym m.stands) (further m e m.at seek (rw (through_same is_back m.since e back, through_same is_on m.since e on) m.sum) m.there)
       ]
 
   goes_on : (p : ℕ) → onward xs place ≡ to p → Stands xs timescale (es ++ (record { call = On; answer = Ok tt; place = Some p } ∷ [])) (Some p)
   goes_on p e =
       let ev : Event = record { call = On; answer = Ok tt; place = Some p } in
       elim now' [
-        | inl n ↦ let w : refused Nowhere ≡ to p = subst (λ q. onward xs q ≡ to p) n.1 e in absurd (apart (refused Nowhere) p Nowhere w refl)
+        | inl n ↦ let w : refused Nowhere ≡ to p = subst (λ q. onward xs q ≡ to p) n.1 e in absurd (cc)
         | inr m ↦
             let w : onward xs (Some m.at) ≡ to p = subst (λ q. onward xs q ≡ to p) m.stands e in
             let step = next_place xs m.at p m.there w in
-            inr record {
-              before = m.before;
-              ms = m.ms;
-              since = m.since ++ (ev ∷ []);
-              found = m.found;
-              at = p;
-              split = ap (λ l. l ++ (ev ∷ [])) m.split ∙ append_assoc m.before (record { call = Seek m.ms; answer = Ok tt; place = Some m.found } ∷ m.since) (ev ∷ []);
-              last = through_same is_seek m.since ev refl ∙ m.last;
-              covered = m.covered;
-              stands = refl;
-              sum = rw (through_same is_back m.since ev refl, through_more is_on m.since ev refl) (omega (arith, m.sum, step.0));
-              there = step.1;
-            }
+            further m ev p refl (rw (through_same is_back m.since ev refl, through_more is_on m.since ev refl) (omega (arith, m.sum, step.0))) step.1
       ]
 
   goes_back : (p : ℕ) → backward xs place ≡ to p → Stands xs timescale (es ++ (record { call = Back; answer = Ok tt; place = Some p } ∷ [])) (Some p)
   goes_back p e =
       let ev : Event = record { call = Back; answer = Ok tt; place = Some p } in
       elim now' [
-        | inl n ↦ let w : refused Nowhere ≡ to p = subst (λ q. backward xs q ≡ to p) n.1 e in absurd (apart (refused Nowhere) p Nowhere w refl)
+        | inl n ↦ let w : refused Nowhere ≡ to p = subst (λ q. backward xs q ≡ to p) n.1 e in absurd (cc)
         | inr m ↦
             let w : backward xs (Some m.at) ≡ to p = subst (λ q. backward xs q ≡ to p) m.stands e in
             let step = previous_place xs m.at p m.there w in
-            inr record {
-              before = m.before;
-              ms = m.ms;
-              since = m.since ++ (ev ∷ []);
-              found = m.found;
-              at = p;
-              split = ap (λ l. l ++ (ev ∷ [])) m.split ∙ append_assoc m.before (record { call = Seek m.ms; answer = Ok tt; place = Some m.found } ∷ m.since) (ev ∷ []);
-              last = through_same is_seek m.since ev refl ∙ m.last;
-              covered = m.covered;
-              stands = refl;
-              sum = rw (through_more is_back m.since ev refl, through_same is_on m.since ev refl) (omega (arith, m.sum, step.0));
-              there = step.1;
-            }
+            further m ev p refl (rw (through_more is_back m.since ev refl, through_same is_on m.since ev refl) (omega (arith, m.sum, step.0))) step.1
       ]
 
   -- a seek that goes through, from wherever the head stood

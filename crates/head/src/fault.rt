@@ -15,6 +15,7 @@ pub enum HeadFault {
 }
 
 impl HeadFault {
+    // A match and no discriminants, so that the proof sees a wrong number.
     pub fn number(self) -> u8
         ensures { result ≡ number self }
     {
@@ -29,7 +30,7 @@ impl HeadFault {
     }
 }
 
-// A place that the timeline has not is one where no head stands.
+// A place that the timeline has not is one where no head stands. By hand, so that a clause can name what `?` makes.
 impl From<AddressFault> for HeadFault {
     ghost from_gives = { λ e r. r ≡ of_address e };
 

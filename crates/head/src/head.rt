@@ -3,6 +3,8 @@ ghost use Rattle.std.specs.Prelude.{◌≡◌, None};
 
 mod calls;
 
+pub use calls::FINEST;
+
 // Stands at a place of a timeline, or nowhere. It does not hold the timeline: each call takes the one to work on.
 // The timescale is in ticks per second, and no call changes it.
 #[derive(Clone, Copy)]

@@ -9,6 +9,6 @@ mod step;
 mod tests;
 
 pub use fault::HeadFault;
-pub use head::Head;
+pub use head::{FINEST, Head};
 pub use sequence::replay;
 pub use step::{Call, Step};

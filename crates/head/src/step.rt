@@ -1,7 +1,7 @@
 // What a head is told, and what it does then.
 use crate::fault::HeadFault;
 
-#[derive(Clone, Copy)]
+#[derive(Clone, Copy, Debug, PartialEq, Eq)]
 pub enum Call {
     Seek(u64),
     On,
@@ -10,7 +10,7 @@ pub enum Call {
 }
 
 // What a call answered, and where the head stands after it.
-#[derive(Clone, Copy)]
+#[derive(Clone, Copy, Debug, PartialEq, Eq)]
 pub struct Step {
     pub answer: Result<(), HeadFault>,
     pub place: Option<u32>,

@@ -38,10 +38,8 @@ impl<T: Timeline> Addressed for Digits<T> {
             return Err(AddressFault::NoSuchPlace(NoSuchPlace));
         }
         let digit = [48 + (place % 10) as u8];
-        match put(bytes, mark, &digit) {
-            Ok(()) => Ok(()),
-            Err(fault) => Err(AddressFault::NoRoom(fault)),
-        }
+        put(bytes, mark, &digit)?;
+        Ok(())
     }
 }
 
@@ -92,8 +90,8 @@ fn long(rt: HostRuntime) {
     assert_eq!(rt; head.seek(&long, 2_147_483_647), Err(HeadFault::NoneCovers));
 }
 
-fn noted(step: Step, answer: Result<(), HeadFault>, place: Option<u32>) -> bool {
-    step.answer == answer && step.place == place
+fn noted(answer: Result<(), HeadFault>, place: Option<u32>) -> Step {
+    Step { answer, place }
 }
 
 #[test]
@@ -110,10 +108,7 @@ fn sequences(rt: HostRuntime) {
         Call::Address,
         Call::On,
     ];
-    let mut steps = [Step {
-        answer: Ok(()),
-        place: None,
-    }; 6];
+    let mut steps = [noted(Ok(()), None); 6];
     let mut bytes = *b"...";
     let mut mark = Mark { used: 1 };
     assert_eq!(rt;
@@ -122,10 +117,15 @@ fn sequences(rt: HostRuntime) {
     );
     assert_eq!(rt; bytes, *b".21");
     assert_eq!(rt; mark.used, 3);
-    assert!(rt; noted(steps[0], Err(HeadFault::Nowhere), None));
-    assert!(rt; noted(steps[1], Ok(()), Some(2)));
-    assert!(rt; noted(steps[2], Ok(()), Some(2)));
-    assert!(rt; noted(steps[3], Ok(()), Some(1)));
-    assert!(rt; noted(steps[4], Ok(()), Some(1)));
-    assert!(rt; noted(steps[5], Err(HeadFault::NoRoom), Some(1)));
+    assert_eq!(rt;
+        steps,
+        [
+            noted(Err(HeadFault::Nowhere), None),
+            noted(Ok(()), Some(2)),
+            noted(Ok(()), Some(2)),
+            noted(Ok(()), Some(1)),
+            noted(Ok(()), Some(1)),
+            noted(Err(HeadFault::NoRoom), Some(1)),
+        ]
+    );
 }

@@ -1,6 +1,5 @@
 -- What an expansion begins with, which does not hang on the number and the time.
-use Rattle.std.proofs.Common.{◌≡◌, ℕ, zero, suc, ◌+◌, ◌-◌, ◌/◌, ◌%◌, min, max, Bool, true, false, not, ◌&&◌, eqb, List, [], ◌∷◌, ◌++◌, length, Some, None, codes, sym, refl, ap, ◌∙◌, append_assoc, mod-lt, arith, lit<}
-use lib.Seq.{paste}
+use Rattle.std.proofs.Common.{◌≡◌, ℕ, zero, suc, ◌+◌, ◌-◌, ◌/◌, ◌%◌, max, Bool, true, false, not, ◌&&◌, eqb, List, [], ◌∷◌, ◌++◌, Some, None, codes, sym, refl, ap, ◌∙◌, append_assoc, mod-lt, arith, lit<}
 use Rattle.std.proofs.lemmas.Bool.{and_parts}
 use Rattle.std.proofs.lemmas.Bool.Decides.{nat_tests}
 use Rattle.output.specs.Digits.{last_digits, digit_count, width_of, padded}
@@ -9,10 +8,8 @@ use Rattle.template.specs.declared.Identifier.TheVariants.{RepresentationId, Num
 use Rattle.template.specs.declared.Piece.{Piece}
 use Rattle.template.specs.declared.Piece.TheVariants.{Byte, Dollar, Value}
 use Rattle.template.specs.Reading.{begins, is_digit, pieces}
-use Rattle.address.specs.Expansion.{value_text, meanings, expansion}
+use Rattle.address.specs.Expansion.{Given, value_text, meanings, expanded, front_of}
 use Rattle.address.specs.Joining.{absolute}
-use Rattle.address.proofs.Words.{blank}
-use Rattle.output.specs.Text.{after}
 use Rattle.joins.specs.Joints.{rooted}
 
 -- whether a word has no digit
@@ -58,40 +55,41 @@ rooted_begins [] = refl
 rooted_begins (b ∷ bs) = elim (eqb b 47) as (λ x. x ≡ (x && true)) [ true ↦ refl | false ↦ refl ]
 
 module _ (id : List ℕ) (bandwidth number time : ℕ) where
+  abbrev at_segment : Given
+  at_segment = record { id = id; bandwidth = bandwidth; number = number; time = time }
+
+  abbrev at_none : Given
+  at_none = record { id = id; bandwidth = bandwidth; number = 0; time = 0 }
+
   alike_value : (i : Identifier) (width : ℕ) (a b : List ℕ) → Alike a b →
-      Alike (value_text id bandwidth number time i width ++ a) (value_text id bandwidth 0 0 i width ++ b)
+      Alike (value_text at_segment i width ++ a) (value_text at_none i width ++ b)
   alike_value RepresentationId width a b same = alike_behind id a b same
   alike_value Number width a b same = alike_numbers width number 0 a b
   alike_value Bandwidth width a b same = alike_behind (padded width bandwidth) a b same
   alike_value Time width a b same = alike_numbers width time 0 a b
 
-  alike_meanings : (ps : List Piece) → Alike (meanings id bandwidth number time ps) (meanings id bandwidth 0 0 ps)
+  alike_meanings : (ps : List Piece) → Alike (meanings at_segment ps) (meanings at_none ps)
   alike_meanings [] = λ w h. refl
-  alike_meanings (Byte x ∷ ps) =
-      alike_behind (x ∷ []) (meanings id bandwidth number time ps) (meanings id bandwidth 0 0 ps) (alike_meanings ps)
-  alike_meanings (Dollar ∷ ps) =
-      alike_behind (36 ∷ []) (meanings id bandwidth number time ps) (meanings id bandwidth 0 0 ps) (alike_meanings ps)
-  alike_meanings (Value i None ∷ ps) =
-      alike_value i 1 (meanings id bandwidth number time ps) (meanings id bandwidth 0 0 ps) (alike_meanings ps)
+  alike_meanings (Byte x ∷ ps) = alike_behind (x ∷ []) (meanings at_segment ps) (meanings at_none ps) (alike_meanings ps)
+  alike_meanings (Dollar ∷ ps) = alike_behind (36 ∷ []) (meanings at_segment ps) (meanings at_none ps) (alike_meanings ps)
+  alike_meanings (Value i None ∷ ps) = alike_value i 1 (meanings at_segment ps) (meanings at_none ps) (alike_meanings ps)
   alike_meanings (Value i (Some width) ∷ ps) =
-      alike_value i width (meanings id bandwidth number time ps) (meanings id bandwidth 0 0 ps) (alike_meanings ps)
+      alike_value i width (meanings at_segment ps) (meanings at_none ps) (alike_meanings ps)
 
   -- whether an expansion is absolute
-  pub absolute_each : (t : List ℕ) → absolute (expansion t id bandwidth number time) ≡ absolute (expansion t id bandwidth 0 0)
+  pub absolute_each : (t : List ℕ) → absolute (expanded t at_segment) ≡ absolute (expanded t at_none)
   absolute_each t =
       let plain = alike_meanings (pieces t) (codes "http://") refl in
       let safe = alike_meanings (pieces t) (codes "https://") refl in
       cc
 
   -- whether an expansion begins with '/'
-  pub rooted_each : (t : List ℕ) → rooted (expansion t id bandwidth number time) ≡ rooted (expansion t id bandwidth 0 0)
+  pub rooted_each : (t : List ℕ) → rooted (expanded t at_segment) ≡ rooted (expanded t at_none)
   rooted_each t =
       let slash = alike_meanings (pieces t) (47 ∷ []) refl in
-      rooted_begins (expansion t id bandwidth number time) ∙ slash ∙ sym (rooted_begins (expansion t id bandwidth 0 0))
+      rooted_begins (expanded t at_segment) ∙ slash ∙ sym (rooted_begins (expanded t at_none))
 
--- the first eight bytes of a text, zeros behind a shorter one, tell whether it begins with '/'
-pub rooted_front : (text : List ℕ) → rooted (after blank 0 text) ≡ rooted text
+-- the first bytes of a text tell whether it begins with '/'
+pub rooted_front : (text : List ℕ) → rooted (front_of text) ≡ rooted text
 rooted_front [] = refl
-rooted_front (a ∷ rest) =
-    let some : min (length (a ∷ rest)) 8 ≡ suc (min (length rest) 7) = omega arith in
-    ap (λ n. rooted (paste blank 0 (a ∷ rest) n)) some
+rooted_front (a ∷ rest) = refl

@@ -1,9 +1,11 @@
 -- Parts read from the last one to the front.
 use Rattle.std.proofs.Common.{◌≡◌, ℕ, Bool, true, false, cond, ◌||◌, List, [], ◌∷◌, ◌++◌, Some, None, Option, sym, refl, ap, ◌∙◌, subst, Bor}
-use Rattle.std.proofs.lemmas.Bool.{or_parts, or_right, cond-false}
+use Rattle.std.proofs.Math.Bool.{or-false}
+use Rattle.std.proofs.lemmas.Bool.{or_right}
 use Rattle.address.specs.declared.Parts.{Parts}
-use Rattle.address.specs.Expansion.{expansion}
-use Rattle.address.specs.Joining.{absolute, some_absolute, from_last, part_in}
+use Rattle.address.specs.Expansion.{expanded}
+use Rattle.address.specs.Joining.{absolute, some_absolute, from_last, part_in, given_of}
+use Rattle.address.proofs.Join.{from_none}
 use Rattle.joins.specs.declared.Walk.{Walk}
 use Rattle.joins.specs.Joints.{rooted, unfit, some_unfit, some_rooted, later_rooted, unjoinable}
 use Rattle.joins.specs.Steps.{lastly, joining, stepped}
@@ -21,18 +23,8 @@ known_by some joined = record { begun = some; slash = first_rooted joined; misfi
 abbrev known : List (List ℕ) → Walk
 known parts = known_by (some_absolute parts) (from_last parts)
 
-or_false : (b : Bool) → (b || false) ≡ b
-or_false true = refl
-or_false false = refl
-
 known_last : (part : List ℕ) → lastly part ≡ known (part ∷ [])
-known_last part = ap (λ b. record { begun = b; slash = rooted part; misfit = false }) (sym (or_false (absolute part)))
-
--- with no absolute part all are joined
-from_none : (parts : List (List ℕ)) → some_absolute parts ≡ false → from_last parts ≡ parts
-from_none [] none = refl
-from_none (part ∷ parts) none =
-    cond-false (some_absolute parts) (from_last parts) (part ∷ parts) (or_parts (absolute part) (some_absolute parts) none).1
+known_last part = ap (λ b. record { begun = b; slash = rooted part; misfit = false }) (sym (or-false (absolute part)))
 
 regrouped : (u r s l : Bool) → (u || (r || (s || l))) ≡ ((u || s) || (r || l))
 regrouped true r s l = refl
@@ -55,7 +47,7 @@ known_more (Some text) part parts = go text.now (some_absolute (part ∷ parts))
         ap (λ ps. joining (known_by false ps) base) (from_none (part ∷ parts) e)
         ∙ ap (λ m. record { begun = absolute base; slash = rooted base; misfit = m })
         (regrouped (unfit base) (rooted part) (some_unfit (part ∷ parts)) (some_rooted parts))
-        ∙ ap (λ some. known_by some (base ∷ part ∷ parts)) (sym (or_false (absolute base)))
+        ∙ ap (λ some. known_by some (base ∷ part ∷ parts)) (sym (or-false (absolute base)))
 
 -- at least one part
 abbrev Nonempty : List (List ℕ) → Type 0
@@ -77,9 +69,9 @@ walked p last = stepped (stepped (stepped (stepped last p.representation) p.set)
 
 -- reading all parts tells whether they can be joined
 pub walked_tells : (p : Parts) (number time : ℕ) →
-    (walked p (lastly (expansion p.template.now p.id.now p.bandwidth number time))).misfit ≡ unjoinable p number time
+    (walked p (lastly (expanded p.template.now (given_of p number time)))).misfit ≡ unjoinable p number time
 walked_tells p number time =
-    let part = expansion p.template.now p.id.now p.bandwidth number time in
+    let part = expanded p.template.now (given_of p number time) in
     let five = part ∷ [] in
     let four = part_in p.representation ++ five in
     let three = part_in p.set ++ four in
@@ -101,7 +93,7 @@ walked_tells p number time =
 -- what is joined does not hang on the number and the time
 pub each_same : (p : Parts) (number time : ℕ) → unjoinable p number time ≡ unjoinable p 0 0
 each_same p number time =
-    let at : ℕ → ℕ → List ℕ = expansion p.template.now p.id.now p.bandwidth in
+    let at : ℕ → ℕ → List ℕ = λ n t. expanded p.template.now (given_of p n t) in
     let begun : absolute (at number time) ≡ absolute (at 0 0) = absolute_each p.id.now p.bandwidth number time p.template.now in
     let slash : rooted (at number time) ≡ rooted (at 0 0) = rooted_each p.id.now p.bandwidth number time p.template.now in
     sym (walked_tells p number time)

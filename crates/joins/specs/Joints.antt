@@ -1,5 +1,6 @@
 -- Which parts of an address cannot be joined.
 use Rattle.std.specs.Prelude.{ℕ, Bool, false, not, ◌||◌, List, [], ◌∷◌, ◌==◌}
+use Rattle.std.specs.List.{list_any}
 use Rattle.address.specs.Joining.{from_last, parts_of}
 use Rattle.address.specs.declared.Parts.{Parts}
 
@@ -8,8 +9,7 @@ abbrev pub blank : ℕ → Bool
 blank b = b == 32 || (b == 9 || (b == 13 || b == 10))
 
 abbrev pub some_blank : List ℕ → Bool
-some_blank [] = false
-some_blank (b ∷ bs) = blank b || some_blank bs
+some_blank text = list_any blank text
 
 -- whether the last byte is '/'; an empty text has none
 abbrev pub ends_in_slash : List ℕ → Bool

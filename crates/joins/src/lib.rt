@@ -1,18 +1,18 @@
 // Whether the parts of an address can be joined.
 #![tactic(auto)]
 
-ghost use Rattle.std.specs.Prelude.{◌≡◌, ℕ, false, not, ◌&&◌};
+ghost use Rattle.std.specs.Prelude.{◌≡◌, ℕ, not, ◌&&◌};
 ghost use Rattle.template.specs.Reading.{broken};
-ghost use Rattle.address.specs.Expansion.{expansion};
-ghost use Rattle.address.specs.Joining.{absolute};
+ghost use Rattle.address.specs.Expansion.{expanded};
+ghost use Rattle.address.specs.Joining.{given_of};
 ghost use Rattle.joins.specs.Joints.{blank, some_blank, ends_in_slash, rooted, unfit, unjoinable};
 ghost use Rattle.joins.specs.Steps.{lastly, stepped};
 
-use address::{Parts, put_expanded};
-use output::Mark;
+use address::{Parts, front, is_absolute};
 use template::is_broken;
 
 // What is known of the joined parts so far, which are read from the last one on to the front.
+// Each fact is known both before the address begins and after it, so that an enum would repeat them.
 #[derive(Clone, Copy)]
 struct Walk {
     // the address begins at one of them, so that no part in front of it is joined
@@ -21,6 +21,34 @@ struct Walk {
     slash: bool,
     // they cannot be joined
     misfit: bool,
+}
+
+impl Walk {
+    // What is known where only the last part was read, the template's expansion: its first bytes say it.
+    fn at_template(parts: &Parts) -> Walk
+        ensures { result ≡ lastly (expanded parts.now.template.now (given_of parts.now 0 0)) }
+    {
+        let front = front(parts.template, parts.values(0, 0));
+        Walk {
+            begun: is_absolute(&front),
+            slash: is_rooted(&front),
+            misfit: false,
+        }
+    }
+
+    // What is known where the base URL in front was read too.
+    fn step(self, base: Option<&[u8]>) -> Walk
+        ensures { result ≡ stepped self base.entry }
+    {
+        match base {
+            Some(text) if !self.begun => Walk {
+                begun: is_absolute(text),
+                slash: is_rooted(text),
+                misfit: is_unfit(text) || self.slash || self.misfit,
+            },
+            _ => self,
+        }
+    }
 }
 
 // Whether the template is whole, each joined base URL is without blanks and ends in '/', and no joined part
@@ -32,44 +60,12 @@ pub fn joins(parts: &Parts) -> bool
     if is_broken(parts.template) {
         return false;
     }
-    let from_template = at_template(parts.template, parts.id, parts.bandwidth);
-    let from_representation = step(from_template, parts.representation);
-    let from_set = step(from_representation, parts.set);
-    let from_period = step(from_set, parts.period);
-    let from_mpd = step(from_period, parts.mpd);
-    !from_mpd.misfit
-}
-
-// What is known where only the last part was read, the template's expansion: its first 8 bytes say it.
-fn at_template(template: &[u8], id: &[u8], bandwidth: u64) -> Walk
-    requires { broken template.now ≡ false }
-    ensures { result ≡ lastly (expansion template.now id.now bandwidth 0 0) }
-{
-    let mut front = [0u8; 8];
-    let mut mark = Mark { used: 0 };
-    let _ = put_expanded(&mut front, &mut mark, template, id, bandwidth, 0, 0);
-    Walk {
-        begun: is_absolute(&front),
-        slash: is_rooted(&front),
-        misfit: false,
-    }
-}
-
-// What is known where the base URL in front was read too.
-fn step(walk: Walk, base: Option<&[u8]>) -> Walk
-    ensures { result ≡ stepped walk base.entry }
-{
-    if walk.begun {
-        return walk;
-    }
-    match base {
-        Some(text) => Walk {
-            begun: is_absolute(text),
-            slash: is_rooted(text),
-            misfit: is_unfit(text) || walk.slash || walk.misfit,
-        },
-        None => walk,
-    }
+    let walk = Walk::at_template(parts)
+        .step(parts.representation)
+        .step(parts.set)
+        .step(parts.period)
+        .step(parts.mpd);
+    !walk.misfit
 }
 
 // Whether the base URL has a blank or does not end in '/'.
@@ -83,14 +79,10 @@ fn is_unfit(base: &[u8]) -> bool
 fn has_blank(text: &[u8]) -> bool
     ensures { result ≡ some_blank text.now }
 {
-    'bytes: for byte in text {
-        if is_blank(*byte) {
-            return true;
-        }
-    }
-    false
+    text.iter().any(|byte| is_blank(*byte))
 }
 
+// The reader has the same test, private to it: a byte's class is decided by a match where the byte is read.
 fn is_blank(byte: u8) -> bool
     ensures { result ≡ blank byte }
 {
@@ -103,28 +95,12 @@ fn is_blank(byte: u8) -> bool
 fn ends_in_slash(text: &[u8]) -> bool
     ensures { result ≡ ends_in_slash text.now }
 {
-    match text {
-        [] => false,
-        [.., last] => *last == b'/',
-    }
+    text.ends_with(b"/")
 }
 
 // Whether the text starts with '/'.
 fn is_rooted(text: &[u8]) -> bool
     ensures { result ≡ rooted text.now }
 {
-    match text {
-        [] => false,
-        [first, ..] => *first == b'/',
-    }
-}
-
-// Whether the text starts with `http://` or `https://`.
-fn is_absolute(text: &[u8]) -> bool
-    ensures { result ≡ absolute text.now }
-{
-    if text.starts_with(b"http://") {
-        return true;
-    }
-    text.starts_with(b"https://")
+    matches!(text, [b'/', ..])
 }

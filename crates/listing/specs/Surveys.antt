@@ -1,5 +1,8 @@
 -- What comes of reading a manifest and checking its rows.
 use Rattle.std.specs.Prelude.{ℕ, cond, List, [], length, Ok, Err, Result, nat_le}
+use Rattle.tables.specs.Rows.{capacity}
+use Rattle.tables.specs.declared.manifest.ManifestRows.{ManifestRows}
+use Rattle.tables.specs.declared.store.Table.{Table}
 use Rattle.reader.specs.Machine.{Outcome, accepted, refused, reading}
 use Rattle.rules.specs.Findings.{findings}
 use Rattle.rules.specs.declared.rule.CheckFault.TheVariants.{FindingsFull}
@@ -23,3 +26,10 @@ surveyed m E A F = answer_of m F (reading m E A)
 
 abbrev pub listed : List ℕ → ℕ → ℕ → ℕ → List Finding
 listed m E A F = findings_of m F (reading m E A)
+
+-- the same with these tables
+abbrev pub surveyed_into : List ℕ → ManifestRows → Table Finding → Result (Unit {0}) ListFault
+surveyed_into m t f = surveyed m (capacity t.elements) (capacity t.attributes) (capacity f)
+
+abbrev pub listed_into : List ℕ → ManifestRows → Table Finding → List Finding
+listed_into m t f = listed m (capacity t.elements) (capacity t.attributes) (capacity f)

@@ -13,6 +13,7 @@ pub enum ListFault {
     Check(CheckFault),
 }
 
+// By hand, so that a clause can name what `?` makes.
 impl From<ReadFault> for ListFault {
     ghost from_gives = { λ e r. r ≡ Read e };
 
@@ -21,6 +22,7 @@ impl From<ReadFault> for ListFault {
     }
 }
 
+// By hand, so that a clause can name what `?` makes.
 impl From<CheckFault> for ListFault {
     ghost from_gives = { λ e r. r ≡ Check e };
 

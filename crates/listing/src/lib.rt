@@ -2,9 +2,11 @@
 #![tactic(auto)]
 
 mod fault;
+mod line;
 mod printing;
 mod surveying;
 
 pub use fault::ListFault;
-pub use printing::{Line, line_at, write_line};
+pub use line::{Line, put_line};
+pub use printing::{line_at, write_line};
 pub use surveying::survey;

@@ -1,19 +1,26 @@
 -- A padded number is the number in decimal at the width, and the only text that is.
-use Rattle.std.proofs.Common.{◌≡◌, ℕ, zero, suc, ◌+◌, ◌-◌, ◌*◌, ◌/◌, ◌%◌, ◌^◌, ◌<◌, ◌≤◌, max, true, false, cond, leb, List, [], ◌∷◌, ◌++◌, length, get_or, take, sym, refl, ap, ◌∙◌, subst, ⊎_elim, pow-suc, add-one, arith, le-leb}
+use Rattle.std.proofs.Common.{◌≡◌, ℕ, zero, suc, ◌+◌, ◌-◌, ◌*◌, ◌/◌, ◌%◌, ◌^◌, ◌<◌, ◌≤◌, max, List, [], ◌∷◌, ◌++◌, length, get_or, take, sym, refl, ap, ◌∙◌, subst, pow-suc, arith}
 use native.Mathlib.Nat.{pow-le-pow_right}
-use borrow.Author.Tests.{lt-leb}
 use Rattle.std.specs.List.{AllByRecursion}
 use Rattle.std.proofs.ByRecursion.{All-push, All-get_or, All-take}
 use Rattle.std.proofs.lemmas.List.{get_or_append_left, length_push, get_or-take, length-take-le, nil_from_length, take_all, take_more}
-use Rattle.std.proofs.lemmas.Bool.{cases_lt}
+use Rattle.std.proofs.lemmas.Bool.Decides.{nat_tests}
 use Rattle.output.specs.Digits.{last_digits, powers_up_to, digit_count, width_of, padded, Digit, value_after, Decimal}
 
 ten_le : (j k : ℕ) → j ≤ k → 10 ^ j ≤ 10 ^ k
 ten_le j k h = pow-le-pow_right {n = 10} (omega arith) h
 
+-- n lies between the powers p and p + 1 of ten, of which the first is not asked at p = 0
+abbrev Between : ℕ → ℕ → Type 0
+Between p n = (n < 10 ^ suc p) × (0 < p → 10 ^ p ≤ n)
+
+-- only one power is below n so that the next is above
+same_power : (p k n : ℕ) → Between p n → Between k n → p ≡ k
+same_power p k n a b = grind (arith, ten_le (suc p) k, ten_le (suc k) p)
+
 length-last_digits : (k n : ℕ) → length (last_digits k n) ≡ k
 length-last_digits zero n = refl
-length-last_digits (suc k) n = length_push (last_digits k (n / 10)) (48 + n % 10) ∙ add-one (length (last_digits k (n / 10))) ∙ ap suc (length-last_digits k (n / 10))
+length-last_digits (suc k) n = omega (arith, length_push (last_digits k (n / 10)) (48 + n % 10), length-last_digits k (n / 10))
 
 all_digits : (k n : ℕ) → AllByRecursion Digit (last_digits k n)
 all_digits zero n = tt
@@ -47,20 +54,24 @@ powers_all : (k n : ℕ) → 10 ^ k ≤ n → powers_up_to k n ≡ k
 powers_all zero n h = refl
 powers_all (suc k) n h =
     let p : 10 ^ suc k ≡ 10 ^ k * 10 = pow-suc 10 k in
-    let t : leb (10 ^ suc k) n ≡ true = le-leb (10 ^ suc k) n h in
     let front : powers_up_to k n ≡ k = powers_all k n (omega arith) in
-    ap (λ b. powers_up_to k n + cond b 1 0) t ∙ ap (λ m. m + 1) front ∙ add-one k
+    grind (arith, nat_tests)
 
 -- n lies between the powers that its count of digits names
-powers_between : (k n : ℕ) → n < 10 ^ suc k → (n < 10 ^ suc (powers_up_to k n)) × (0 < powers_up_to k n → 10 ^ powers_up_to k n ≤ n)
+powers_between : (k n : ℕ) → n < 10 ^ suc k → Between (powers_up_to k n) n
 powers_between zero n h = (h, λ p. absurd (omega arith))
-powers_between (suc k) n h = ⊎_elim
-    (λ below.
-    let t : leb (10 ^ suc k) n ≡ false = lt-leb (10 ^ suc k) n below in
-    let same : powers_up_to (suc k) n ≡ powers_up_to k n = ap (λ b. powers_up_to k n + cond b 1 0) t ∙ (let e : powers_up_to k n + 0 ≡ powers_up_to k n = omega arith in e) in
-    subst (λ m. (n < 10 ^ suc m) × (0 < m → 10 ^ m ≤ n)) (sym same) (powers_between k n below))
-    (λ above. subst (λ m. (n < 10 ^ suc m) × (0 < m → 10 ^ m ≤ n)) (sym (powers_all (suc k) n above)) (h, λ _. above))
-    (cases_lt n (10 ^ suc k))
+powers_between (suc k) n h =
+    let all : 10 ^ suc k ≤ n → powers_up_to (suc k) n ≡ suc k = powers_all (suc k) n in
+    let before : n < 10 ^ suc k → Between (powers_up_to k n) n = powers_between k n in
+    grind (arith, nat_tests)
+
+-- a number has a digit more than its logarithm says
+pub log_count : (k n : ℕ) → n < 10 ^ 20 → 10 ^ k ≤ max n 1 → max n 1 < 10 * 10 ^ k → k + 1 ≡ digit_count n
+log_count k n small low high =
+    let p : 10 ^ suc k ≡ 10 ^ k * 10 = pow-suc 10 k in
+    let one : 0 < k → 10 ^ k ≤ n = λ some. omega (arith, ten_le 1 k some) in
+    let same : powers_up_to 19 n ≡ k = same_power (powers_up_to 19 n) k n (powers_between 19 n small) (omega arith, one) in
+    omega arith
 
 -- a padded number is the number in decimal at the width
 pub padded_decimal : (width n : ℕ) → n < 10 ^ 20 → Decimal width n (padded width n)
@@ -100,10 +111,7 @@ digits_back (suc k) text long all =
     let before = digits_back k front (length-take-le k text (omega arith)) (All-take Digit k text all) in
     let tens : value_after 0 front ≡ v / 10 = omega (arith, last.0, last.1) in
     let ones : get_or text k 0 ≡ 48 + v % 10 = omega (arith, last.0, last.1) in (
-      split_last k text long
-          ∙ ap (λ t. t ++ (get_or text k 0 ∷ [])) before.0
-          ∙ ap (λ m. last_digits k m ++ (get_or text k 0 ∷ [])) tens
-          ∙ ap (λ b. last_digits k (v / 10) ++ (b ∷ [])) ones,
+      cc (split_last k text long, before.0),
       omega (arith, before.1, last.1),
     )
 
@@ -117,23 +125,11 @@ value_from (suc k) text long first =
     omega (arith, value_last (suc k) text long)
 
 -- how many digits a text has: l of them, at least the width w and more only if the first is not 0, for a number of p + 1 digits
-count_is : (n p w l : ℕ) → 0 < w → w ≤ l → n < 10 ^ l → n < 10 ^ suc p → (0 < p → 10 ^ p ≤ n) → ((j : ℕ) → l ≡ suc j → w < l → 10 ^ j ≤ n) → l ≡ max (1 + p) w
-count_is n p w zero some wide below within reach first = absurd (omega arith)
-count_is n p w (suc j) some wide below within reach first = ⊎_elim
-    (λ longer.
-    let low : 10 ^ j ≤ n = first j refl longer in
-    ⊎_elim
-    (λ less. absurd (omega (arith, ten_le (suc p) j less)))
-    (λ most. ⊎_elim
-    (λ more. absurd (omega (arith, ten_le (suc j) p more, reach (omega arith))))
-    (λ least. omega arith)
-    (cases_lt j p))
-    (cases_lt p j))
-    (λ exact. ⊎_elim
-    (λ fits. omega arith)
-    (λ over. absurd (omega (arith, ten_le (suc j) p (omega arith), reach (omega arith))))
-    (cases_lt p w))
-    (cases_lt w (suc j))
+count_is : (n p w l : ℕ) → 0 < w → w ≤ l → n < 10 ^ l → Between p n → ((j : ℕ) → l ≡ suc j → w < l → 10 ^ j ≤ n) → l ≡ max (1 + p) w
+count_is n p w zero some wide below between first = absurd (omega arith)
+count_is n p w (suc j) some wide below between first =
+    let low : w < suc j → 10 ^ j ≤ n = first j refl in
+    grind (arith, ten_le (suc p) j, ten_le (suc j) p)
 
 -- no other text is the number in decimal at the width
 pub decimal_padded : (width n : ℕ) (text : List ℕ) → n < 10 ^ 20 → Decimal width n text → text ≡ padded width n
@@ -142,6 +138,6 @@ decimal_padded width n text small d =
     let back = digits_back (length text) text refl d.digits in
     let at : length text ≡ max (digit_count n) (width_of width) =
     count_is n (powers_up_to 19 n) (width_of width) (length text) (omega arith) d.wide
-    (subst (λ m. m < 10 ^ length text) d.value back.1) between.0 between.1
-    (λ j e longer. subst (λ m. 10 ^ j ≤ m) d.value (value_from j text e (d.tight longer))) in
-    back.0 ∙ ap (λ m. last_digits (length text) m) d.value ∙ ap (λ k. last_digits k n) at
+    (rw d.value at back.1) between
+    (λ j e longer. omega (arith, value_from j text e (d.tight longer), d.value)) in
+    cc (back.0, d.value)

@@ -1,8 +1,8 @@
 -- Texts that are put in several parts, one after another.
-use Rattle.std.proofs.Common.{◌≡◌, ℕ, ◌+◌, ◌-◌, ◌<◌, ◌≤◌, min, true, List, [], ◌++◌, length, take, drop, is_err, Ok, Err, Result, sym, refl, ap, ◌∙◌, subst, ⊎_elim, arith, length-append}
+use Rattle.std.proofs.Common.{◌≡◌, ℕ, ◌+◌, ◌-◌, ◌<◌, ◌≤◌, min, true, List, ◌++◌, length, take, drop, is_err, Ok, Err, Result, sym, refl, ap, ◌∙◌, ⊎_elim, arith, length-append, append_assoc}
 use lib.Seq.{paste, take-append-add}
 use Rattle.std.proofs.lemmas.List.Edits.{paste_none, paste-paste, length-paste}
-use Rattle.std.proofs.lemmas.List.{length-take-le, take-take, take-append-le, nil_from_length}
+use Rattle.std.proofs.lemmas.List.{length-take, length-drop, length-take-le, take-take, take-append-le, nil_from_length}
 use Rattle.std.proofs.lemmas.Bool.{cases_lt, false≢true}
 use Rattle.output.specs.declared.NoRoom.{NoRoom}
 use Rattle.output.specs.Text.{room, after, Answered, Puts}
@@ -17,27 +17,22 @@ module _ (bytes : List ℕ) (used : ℕ) (a b : List ℕ) where
   within inside fits =
       let first = paste bytes used a (length a) in
       let m = min (length b) (length bytes - (used + length a)) in
-      let one : after bytes used a ≡ first = ap (λ n. paste bytes used a n) (let e : min (length a) (room bytes used) ≡ length a = omega arith in e) in
+      let one : min (length a) (room bytes used) ≡ length a = omega arith in
       let long : length first ≡ length bytes = length-paste bytes used a (length a) (omega arith) (omega arith) in
-      let count : min (length b) (length first - (used + length a)) ≡ m = ap (λ n. min (length b) (n - (used + length a))) long in
-      let part : length (take m b) ≡ m = length-take-le m b (omega arith) in
+      let count : min (length b) (length first - (used + length a)) ≡ m = omega arith in
       let total : min (length (a ++ b)) (room bytes used) ≡ length a + m = simp length-append (omega arith) in
-      ap (λ d. after d (used + length a) b) one
-      ∙ ap (λ n. paste first (used + length a) b n) count
-      ∙ sym (paste-front first (used + length a) b m)
-      ∙ paste-paste bytes used a (take m b) (length a) m refl (sym part) inside
-      ∙ ap (λ t. paste bytes used t (length a + m)) (sym (take-append-add a b m))
-      ∙ paste-front bytes used (a ++ b) (length a + m)
-      ∙ ap (λ n. paste bytes used (a ++ b) n) (sym total)
+      let part : m ≡ length (take m b) = sym (length-take-le m b (omega arith)) in
+      let joined : paste first (used + length a) (take m b) m ≡ paste bytes used (a ++ take m b) (length a + m) = paste-paste bytes used a (take m b) (length a) m refl part inside in
+      let texts : take (length a + m) (a ++ b) ≡ a ++ take m b = take-append-add a b m in
+      cc (paste-front first (used + length a) b m, paste-front bytes used (a ++ b) (length a + m))
 
   -- the same, where the mark is past the end, so that only an empty part fits
   past : length bytes < used → length a ≤ room bytes used → after (after bytes used a) (used + length a) b ≡ after bytes used (a ++ b)
   past outside fits =
-      let none : a ≡ [] = nil_from_length a (omega arith) in
-      subst (λ t. after (after bytes used t) (used + length t) b ≡ after bytes used (t ++ b)) (sym none)
-      (ap (λ n. after (paste bytes used [] n) (used + 0) b) (let e : min 0 (room bytes used) ≡ 0 = omega arith in e)
-      ∙ ap (λ d. after d (used + 0) b) (sym (paste_none bytes used []))
-      ∙ ap (λ n. after bytes n b) (let e : used + 0 ≡ used = omega arith in e))
+      let none : a ++ b ≡ b = ap (λ t. t ++ b) (nil_from_length a (omega arith)) in
+      let zero : min (length a) (room bytes used) ≡ 0 = omega arith in
+      let still : used + length a ≡ used = omega arith in
+      cc (paste_none bytes used a)
 
   -- the same, wherever the mark is
   after_fitting : length a ≤ room bytes used → after (after bytes used a) (used + length a) b ≡ after bytes used (a ++ b)
@@ -49,19 +44,11 @@ module _ (bytes : List ℕ) (used : ℕ) (a b : List ℕ) where
       let free = room bytes used in
       let part : min (length a) free ≡ free = omega arith in
       let whole : min (length (a ++ b)) free ≡ free = simp length-append (omega arith) in
-      ap (λ n. paste bytes used a n) part
-      ∙ ap (λ t. take used bytes ++ t ++ drop (used + free) bytes) (sym (take-append-le free a b (omega arith)))
-      ∙ ap (λ n. paste bytes used (a ++ b) n) (sym whole)
+      cc (take-append-le free a b (omega arith))
 
 -- no byte is added or lost
 length-after : (bytes : List ℕ) (used : ℕ) (text : List ℕ) → length (after bytes used text) ≡ length bytes
-length-after bytes used text =
-    ⊎_elim
-    (λ outside.
-    let none : min (length text) (room bytes used) ≡ 0 = omega arith in
-    ap (λ n. length (paste bytes used text n)) none ∙ ap length (sym (paste_none bytes used text)))
-    (λ inside. length-paste bytes used text (min (length text) (room bytes used)) (omega arith) (omega arith))
-    (cases_lt (length bytes) used)
+length-after bytes used text = simp (length-append, length-take, length-drop) (omega arith)
 
 -- the mark that a text leaves: an accepted one moves it, a refused one leaves it where it was
 abbrev pub settled : ℕ → ℕ → Result (Unit {0}) NoRoom → ℕ
@@ -77,7 +64,7 @@ module _ {bytes a bytes₁ : List ℕ} {used used₁ : ℕ} where
       let long : length bytes₁ ≡ length bytes = ap length p.left ∙ length-after bytes used a in
       let both : length (a ++ b) ≡ length a + length b = length-append a b in
       record {
-        left = q.left ∙ ap (λ d. after d used₁ b) p.left ∙ ap (λ n. after (after bytes used a) n b) moved ∙ after_fitting bytes used a b fits;
+        left = cc (p.left, q.left, moved, after_fitting bytes used a b fits);
         answer = elim r as (λ v. Answered (room bytes₁ used₁) (length b) used₁ used₂ v → Answered (room bytes used) (length (a ++ b)) used (settled used used₂ v) v) [
           | Ok v ↦ λ h. (omega arith, omega arith)
           | Err e ↦ λ h. (omega arith, refl)
@@ -91,19 +78,21 @@ module _ {bytes a bytes₁ : List ℕ} {used used₁ : ℕ} where
     answer = (simp length-append (omega (arith, p.answer.0)), p.answer.1);
   }
 
+-- a text of three parts, however they are put together
+pub regrouped : (a b c : List ℕ) {bytes bytes' : List ℕ} {used used' : ℕ} {r : Result (Unit {0}) NoRoom} → Puts bytes used ((a ++ b) ++ c) bytes' used' r → Puts bytes used (a ++ (b ++ c)) bytes' used' r
+regrouped a b c p = rw (← append_assoc a b c) p
+
 -- a refused text under a guard, which puts the mark back
 pub refused_guarded : {bytes text bytes' : List ℕ} {used used' held last : ℕ} {e : NoRoom} {r : Result (Unit {0}) NoRoom} → Puts bytes used text bytes' used' (Err e) → used ≡ held → last ≡ held → is_err r ≡ true → Puts bytes held text bytes' last r
-refused_guarded {bytes} {text} {bytes'} {used} {used'} {held} {last} {r = r} p from back err = record {
-  left = p.left ∙ ap (λ n. after bytes n text) from;
-  answer = elim r as (λ v. is_err v ≡ true → Answered (room bytes held) (length text) held last v) [
-    | Ok v ↦ λ h. absurd (false≢true h)
-    | Err e ↦ λ h. (omega (arith, p.answer.0), back)
-  ] err;
+refused_guarded {r = Ok v} p from back err = absurd (false≢true err)
+refused_guarded {r = Err e} p from back err = record {
+  left = rw (← from) p.left;
+  answer = (omega (arith, p.answer.0), back);
 }
 
 -- an accepted text under a guard, which leaves the mark
 pub accepted_guarded : {bytes text bytes' : List ℕ} {used used' held last : ℕ} {u v : Unit {0}} → Puts bytes used text bytes' used' (Ok u) → used ≡ held → last ≡ used' → Puts bytes held text bytes' last (Ok v)
-accepted_guarded {bytes} {text} p from stays = record {
-  left = p.left ∙ ap (λ n. after bytes n text) from;
+accepted_guarded p from stays = record {
+  left = rw (← from) p.left;
   answer = (omega (arith, p.answer.0), omega (arith, p.answer.1));
 }

@@ -25,6 +25,7 @@ pub record Puts (bytes : List ℕ) (used : ℕ) (text bytes' : List ℕ) (used' 
   pub left : bytes' ≡ after bytes used text
   pub answer : Answered (room bytes used) (length text) used used' r
 
--- the same of an output before and after
-abbrev pub Written : Output → List ℕ → Output → Result (Unit {0}) NoRoom → Type 0
-Written o text p r = Puts o.bytes.now o.mark.used text p.bytes.now p.mark.used r
+-- the same of an output before and after, which stays over the bytes that it was lent
+pub record Written (o : Output) (text : List ℕ) (p : Output) (r : Result (Unit {0}) NoRoom) : Type 0 where
+  pub lent : p.bytes.ghost_name ≡ o.bytes.ghost_name
+  pub puts : Puts o.bytes.now o.mark.used text p.bytes.now p.mark.used r

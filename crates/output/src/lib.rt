@@ -5,8 +5,11 @@ ghost use Rattle.std.specs.Prelude.{◌≡◌, ℕ, ◌+◌, ◌<◌, ◌≤◌,
 ghost use Rattle.output.specs.Digits.{last_digits, digit_count, padded, Decimal};
 ghost use Rattle.output.specs.Text.{number, room, after, Puts, Written};
 
+mod labelled;
 #[cfg(test)]
 mod tests;
+
+pub use labelled::put_labelled;
 
 // How many of the bytes are used. It may be past their end.
 #[derive(Clone, Copy, Debug, PartialEq, Eq)]
@@ -26,7 +29,8 @@ impl NoRoom {
     }
 }
 
-// Holds the mark while a text is put in one or more parts, and puts it back unless the text is accepted.
+// Holds the mark while a text is put in one or more parts, and puts it back unless the text is accepted. It borrows
+// the mark alone, so that the bytes stay free for what is put under it: bytes and mark are passed side by side.
 pub struct Guard<'m> {
     pub mark: &'m mut Mark,
     saved: usize,
@@ -59,20 +63,20 @@ impl<'m> Guard<'m> {
     }
 }
 
-// Puts the text behind the mark byte by byte, as far as there is room, and moves the mark along.
+// Puts the text behind the mark as far as there is room, and moves the mark past a text that fits.
 fn copy(bytes: &mut [u8], mark: &mut Mark, text: &[u8]) -> Result<(), NoRoom>
     ensures left { bytes.new ≡ after bytes.old mark.old.used text.now }
     ensures cases { MatchResult result
         (λ _. (length text.now ≤ room bytes.old mark.old.used) × (mark.new.used ≡ mark.old.used + length text.now))
         (λ _. room bytes.old mark.old.used < length text.now) }
 {
-    for b in text {
-        if mark.used >= bytes.len() {
-            return Err(NoRoom);
-        }
-        bytes[mark.used] = *b;
-        mark.used += 1;
+    let start = mark.used.min(bytes.len());
+    let fits = text.len().min(bytes.len() - start);
+    bytes[start..start + fits].copy_from_slice(&text[..fits]);
+    if fits < text.len() {
+        return Err(NoRoom);
     }
+    mark.used += fits;
     Ok(())
 }
 
@@ -91,34 +95,18 @@ pub fn put(bytes: &mut [u8], mark: &mut Mark, text: &[u8]) -> Result<(), NoRoom>
 fn fill_digits(to: &mut [u8], n: u64)
     ensures { to.new ≡ last_digits (length to.old) n }
 {
-    let mut rest = n;
-    for i in (0..to.len()).rev() {
-        to[i] = b'0' + (rest % 10) as u8;
-        rest /= 10;
+    if let Some((last, front)) = to.split_last_mut() {
+        *last = b'0' + (n % 10) as u8;
+        fill_digits(front, n / 10);
     }
 }
 
 // How many digits n has.
 fn count_digits(n: u64) -> usize
-    ensures { result ≡ digit_count n }
+    ensures count { result ≡ digit_count n }
+    ensures few { result ≤ 20 }
 {
-    let mut count = 1;
-    let mut power = 1u64;
-    for k in 0..19u32 {
-        power *= 10;
-        if power <= n {
-            count += 1;
-        }
-    }
-    count
-}
-
-// Puts as many of the last digits of n as `digits` has bytes.
-fn put_digits(bytes: &mut [u8], mark: &mut Mark, digits: &mut [u8], n: u64) -> Result<(), NoRoom>
-    ensures { Puts bytes.old mark.old.used (last_digits (length digits.old) n) bytes.new mark.new.used result }
-{
-    fill_digits(digits, n);
-    put(bytes, mark, digits)
+    n.max(1).ilog10() as usize + 1
 }
 
 // Puts n in decimal, padded with zeros on the left to the width and never shortened. A width below 1 counts as 1,
@@ -129,9 +117,10 @@ pub fn put_number(bytes: &mut [u8], mark: &mut Mark, n: u64, width: u8) -> Resul
     ensures only { (text : List ℕ) → Decimal width n text → text ≡ padded width n }
 {
     let mut digits = [0u8; 20];
-    let wide = width.min(20).max(1) as usize;
-    let long = count_digits(n).max(wide);
-    put_digits(bytes, mark, &mut digits[0..long], n)
+    let long = count_digits(n).max(usize::from(width.clamp(1, 20)));
+    let digits = &mut digits[..long];
+    fill_digits(digits, n);
+    put(bytes, mark, digits)
 }
 
 // The caller's bytes and their mark, for writing one text after another.
@@ -154,23 +143,15 @@ impl<'a> Output<'a> {
     }
 
     pub fn write(&mut self, text: &[u8]) -> Result<(), NoRoom>
-        ensures lent { self.new.bytes.ghost_name ≡ self.old.bytes.ghost_name }
-        ensures written { Written self.old text.now self.new result }
+        ensures { Written self.old text.now self.new result }
     {
-        let mut mark = self.mark;
-        let r = put(self.bytes, &mut mark, text);
-        self.mark = mark;
-        r
+        put(self.bytes, &mut self.mark, text)
     }
 
     pub fn write_number(&mut self, n: u64, width: u8) -> Result<(), NoRoom>
-        ensures lent { self.new.bytes.ghost_name ≡ self.old.bytes.ghost_name }
-        ensures written { Written self.old (padded width n) self.new result }
+        ensures { Written self.old (padded width n) self.new result }
     {
-        let mut mark = self.mark;
-        let r = put_number(self.bytes, &mut mark, n, width);
-        self.mark = mark;
-        r
+        put_number(self.bytes, &mut self.mark, n, width)
     }
 
     // The bytes before the mark, all of them where the mark is past the end.
@@ -178,6 +159,6 @@ impl<'a> Output<'a> {
         ensures { result.now ≡ take self.now.mark.used self.now.bytes.now }
     {
         let end = self.mark.used.min(self.bytes.len());
-        &self.bytes[0..end]
+        &self.bytes[..end]
     }
 }

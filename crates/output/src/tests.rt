@@ -72,3 +72,14 @@ fn lines(rt: HostRuntime) {
     assert_eq!(rt; mark.used, 11);
     assert_eq!(rt; bytes, *b"findings 7\nf");
 }
+
+#[test]
+fn labels(rt: HostRuntime) {
+    let mut bytes = *b"......";
+    let mut mark = Mark { used: 1 };
+    assert_eq!(rt; put_labelled(&mut bytes, &mut mark, b"at ", 12), Ok(()));
+    assert_eq!(rt; mark.used, 6);
+    assert_eq!(rt; bytes, *b".at 12");
+    assert_eq!(rt; put_labelled(&mut bytes, &mut mark, b"", 7), Err(NoRoom));
+    assert_eq!(rt; mark.used, 6);
+}

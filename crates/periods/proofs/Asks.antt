@@ -1,39 +1,33 @@
 -- What is read of the Periods that are left.
-use Rattle.std.proofs.Common.{◌≡◌, ℕ, zero, suc, ◌+◌, ◌<◌, ◌≤◌, Bool, true, false, ◌||◌, List, [], length, take, codes, refl, ap, ◌∙◌}
+use Rattle.std.proofs.Common.{◌≡◌, ℕ, suc, ◌+◌, ◌≤◌, min, Bool, true, false, ◌||◌, List, ◌∷◌, length, take, refl, ap, ◌∙◌, sym, inl, inr, arith}
+use Rattle.std.proofs.lemmas.Bool.{cases_lt}
+use Rattle.std.proofs.lemmas.List.{take_all}
 use Rattle.tables.specs.declared.manifest.Attribute.{Attribute}
 use Rattle.tables.specs.declared.manifest.Element.{Element}
-use Rattle.tree.specs.Questions.{is_child_at, rows_from}
-use Rattle.tree.proofs.Rows.{rows_here, rows_more, rows_end}
 use Rattle.values.specs.Given.{some_unread}
 use Rattle.values.proofs.Presence.{unread_append}
 use Rattle.periods.specs.Starts.{asked_of, asked_by}
 
-take_none : (d : ℕ) → take {A = ℕ} d [] ≡ []
-take_none zero = refl
-take_none (suc d) = refl
+-- a count that is cut to a number takes as many of a list that is no longer than that number
+pub take_cut : (n most : ℕ) (rows : List ℕ) → length rows ≤ most → take (min n most) rows ≡ take n rows
+take_cut n most rows fits =
+    elim (cases_lt most n) [
+      | inl more ↦ let cut : min n most ≡ most = omega arith in let all : length rows ≤ n = omega arith in rw cut (take_all most rows fits ∙ sym (take_all n rows all))
+      | inr few ↦ let whole : min n most ≡ n = omega arith in rw whole refl
+    ]
 
 module _ (m : List ℕ) (es : List Element) (xs : List Attribute) where
-  -- whether something of the next d Periods from the row k on cannot be read
-  abbrev pub unread_in : ℕ → ℕ → Bool
-  unread_in d k = some_unread (asked_by m es xs (take d (rows_from (is_child_at m es 0 (codes "Period")) (length es) k)))
+  -- whether something of these rows cannot be read
+  abbrev pub unread_by : List ℕ → Bool
+  unread_by rows = some_unread (asked_by m es xs rows)
 
-  module _ (k : ℕ) where
-    first : k < length es → true ≡ is_child_at m es 0 (codes "Period") k → (d e : ℕ) → d ≡ suc e → unread_in d k ≡ (some_unread (asked_of m es xs k) || unread_in e (k + 1))
-    first lt t d e s =
-        let p = is_child_at m es 0 (codes "Period") in
-        rw (s, rows_here p (length es) k lt t) (unread_append (asked_of m es xs k) (asked_by m es xs (take e (rows_from p (length es) (k + 1)))))
+  module _ (n e row : ℕ) (rows rest : List ℕ) (so : rows ≡ row ∷ rest) (more : e + 1 ≡ n) where
+    first : unread_by (take n rows) ≡ (some_unread (asked_of m es xs row) || unread_by (take e rest))
+    first = let s : n ≡ suc e = omega arith in rw (s, so) (unread_append (asked_of m es xs row) (asked_by m es xs (take e rest)))
 
-    -- the row k is that of a Period, which cannot be read, or can
-    pub unread_here : k < length es → true ≡ is_child_at m es 0 (codes "Period") k → some_unread (asked_of m es xs k) ≡ true → (d e : ℕ) → d ≡ suc e → unread_in d k ≡ true
-    unread_here lt t bad d e s = first lt t d e s ∙ ap (λ b. b || unread_in e (k + 1)) bad
+    -- the first of them cannot be read, or can
+    pub unread_here : some_unread (asked_of m es xs row) ≡ true → unread_by (take n rows) ≡ true
+    unread_here bad = first ∙ ap (λ b. b || unread_by (take e rest)) bad
 
-    pub read_here : k < length es → true ≡ is_child_at m es 0 (codes "Period") k → some_unread (asked_of m es xs k) ≡ false → (d e : ℕ) → d ≡ suc e → unread_in d k ≡ unread_in e (k + 1)
-    read_here lt t good d e s = first lt t d e s ∙ ap (λ b. b || unread_in e (k + 1)) good
-
-    -- it is another row
-    pub not_here : k < length es → false ≡ is_child_at m es 0 (codes "Period") k → (d e : ℕ) → d ≡ e → unread_in d k ≡ unread_in e (k + 1)
-    not_here lt f d e s = rw (s, rows_more (is_child_at m es 0 (codes "Period")) (length es) k lt f) refl
-
-    -- no row is left
-    pub none_here : length es ≤ k → (d : ℕ) → unread_in d k ≡ false
-    none_here le d = rw (rows_end (is_child_at m es 0 (codes "Period")) (length es) k le, take_none d) refl
+    pub read_here : some_unread (asked_of m es xs row) ≡ false → unread_by (take n rows) ≡ unread_by (take e rest)
+    read_here good = first ∙ ap (λ b. b || unread_by (take e rest)) good

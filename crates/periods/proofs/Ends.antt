@@ -1,15 +1,14 @@
 -- Where a Period ends, and the time from its start to there.
-use Rattle.std.proofs.Common.{◌≡◌, ℕ, ◌+◌, ◌-◌, ◌≤◌, Bool, true, false, cond, ltb, leb, List, length, Some, None, codes, Option, sym, refl, ap, ◌∙◌, subst, inl, inr, arith}
+use Rattle.std.proofs.Common.{◌≡◌, ℕ, ◌+◌, ◌≤◌, true, false, cond, ltb, List, length, Some, None, codes, Option, sym, ◌∙◌, subst, inl, inr, arith}
 use Rattle.std.proofs.lemmas.Option.{slice_get-get_or, slice_get_past}
-use Rattle.std.proofs.lemmas.Bool.{cond-true, cond-false, cases_lt, lt-ltb, le-ltb, le-leb}
-use Rattle.std.specs.Bool.{then_some}
+use Rattle.std.proofs.lemmas.Bool.{cond-true, cond-false, cases_lt, lt-ltb, le-ltb}
 use Rattle.std.specs.List.{slice_get}
 use Rattle.tables.specs.declared.manifest.Attribute.{Attribute}
 use Rattle.tables.specs.declared.manifest.Element.{Element}
 use Rattle.tree.specs.Questions.{value_of}
 use Rattle.values.specs.Duration.{duration_of}
 use Rattle.values.specs.Given.{present}
-use Rattle.periods.specs.Starts.{lasting, periods, start_of, end_of, length_of}
+use Rattle.periods.specs.Starts.{periods, start_of, end_of, length_of}
 use Rattle.periods.proofs.Durations.{Small}
 use Rattle.periods.proofs.Sizes.{length-small}
 
@@ -28,11 +27,6 @@ place_wanting ps j e =
       | inr le ↦ le-ltb j (length ps) le
     ]
 
--- what is there under a test passed it
-tested : (b : Bool) (o : Option ℕ) (n : ℕ) → Some n ≡ cond b o None → (b ≡ true) × (o ≡ Some n)
-tested true o n e = (refl, sym e)
-tested false o n e = let z : ◌≡◌ {A = ℕ} 0 1 = cc in absurd (omega arith)
-
 module _ (m : List ℕ) (es : List Element) (xs : List Attribute) where
   abbrev whole : Option ℕ
   whole = present duration_of (value_of m xs 0 (codes "mediaPresentationDuration"))
@@ -49,14 +43,6 @@ module _ (m : List ℕ) (es : List Element) (xs : List Attribute) where
       let b = ltb (i + 1) (length (periods m es xs)) in
       e ∙ sym (cond-false b (start_of m es xs (i + 1)) whole (place_wanting (periods m es xs) (i + 1) none))
 
-  -- the time between a start and an end that are both there
-  pub length-is : (i s e : ℕ) → Some s ≡ cond (ltb i (length (periods m es xs))) (start_of m es xs i) None → Some e ≡ end_of m es xs i → s ≤ e → Some (e - s) ≡ length_of m es xs i
-  length-is i s e start end le =
-      let b = ltb i (length (periods m es xs)) in
-      let t = tested b (start_of m es xs i) s start in
-      let both : lasting (start_of m es xs i) (end_of m es xs i) ≡ lasting (Some s) (Some e) = cc t.1 in
-      let when : then_some (leb s e) (e - s) ≡ Some (e - s) = ap (λ b. then_some b (e - s)) (le-leb s e le) in
-      sym (cond-true b (lasting (start_of m es xs i) (end_of m es xs i)) None t.0 ∙ both ∙ when)
-
-  pub difference_small : (i s e : ℕ) → Some (e - s) ≡ length_of m es xs i → e - s ≤ 100000000000
-  difference_small i s e is = subst Small (sym is) (length-small m es xs i)
+  -- what the length of a Period is, is no longer than a duration
+  pub length_fits : (i ms : ℕ) → Some ms ≡ length_of m es xs i → ms ≤ 100000000000
+  length_fits i ms is = subst Small (sym is) (length-small m es xs i)

@@ -1,11 +1,12 @@
--- The steps of a walk over the rows from Period to Period.
-use Rattle.std.proofs.Common.{◌≡◌, ℕ, suc, ◌+◌, ◌-◌, ◌<◌, ◌≤◌, true, false, List, [], ◌∷◌, length, get_or, drop, codes, Option, sym, ap, ◌∙◌, arith}
+-- The steps of a walk from Period to Period.
+use Rattle.std.proofs.Common.{◌≡◌, ℕ, suc, ◌+◌, ◌-◌, ◌<◌, ◌≤◌, List, [], ◌∷◌, length, get_or, drop, codes, Option, sym, ap, ◌∙◌, inl, inr, arith}
+use Rattle.std.proofs.lemmas.Bool.{cases_lt}
 use Rattle.std.proofs.lemmas.List.{drop_more, length-drop}
 use Rattle.std.specs.Option.{option_or}
 use Rattle.tables.specs.declared.manifest.Attribute.{Attribute}
 use Rattle.tables.specs.declared.manifest.Element.{Element}
-use Rattle.tree.specs.Questions.{value_of, is_child_at, rows_from}
-use Rattle.tree.proofs.Rows.{rows_here, rows_more, rows_end}
+use Rattle.tree.specs.Questions.{value_of, is_child_at}
+use Rattle.tree.proofs.Rows.{rows_few}
 use Rattle.values.specs.Duration.{duration_of}
 use Rattle.values.specs.Given.{present}
 use Rattle.periods.specs.Starts.{plus, periods, period_at, stated_start, stated_duration, following, start_of}
@@ -23,23 +24,26 @@ drop-end : (xs : List ℕ) (i : ℕ) → drop i xs ≡ [] → length xs ≤ i
 drop-end xs i e = let long : length xs - i ≡ 0 = sym (length-drop i xs) ∙ ap length e in omega arith
 
 module _ (m : List ℕ) (es : List Element) (xs : List Attribute) where
-  -- the rows from k on hold the Periods from i on
-  abbrev pub Walked : ℕ → ℕ → Type 0
-  Walked i k = drop i (periods m es xs) ≡ rows_from (is_child_at m es 0 (codes "Period")) (length es) k
+  -- the rows that are left are those of the Periods from i on, and where the Period i follows
+  pub record Walked (i : ℕ) (rows : List ℕ) (f : Option ℕ) : Type 0 where
+    pub left : drop i (periods m es xs) ≡ rows
+    pub before : f ≡ following m es xs i
 
-  -- the row k is that of the Period i
-  pub here : (i k : ℕ) → Walked i k → k < length es → true ≡ is_child_at m es 0 (codes "Period") k → (i < length (periods m es xs)) × (period_at m es xs i ≡ k) × Walked (i + 1) (k + 1)
-  here i k walked lt t =
-      let p = is_child_at m es 0 (codes "Period") in
-      drop_here (periods m es xs) i k (rows_from p (length es) (k + 1)) (walked ∙ rows_here p (length es) k lt t)
+  -- there are no more Periods than rows
+  pub periods_few : length (periods m es xs) ≤ length es
+  periods_few = omega (arith, rows_few (is_child_at m es 0 (codes "Period")) (length es) 0)
 
-  -- it is another row
-  pub passed : (i k : ℕ) → Walked i k → k < length es → false ≡ is_child_at m es 0 (codes "Period") k → Walked i (k + 1)
-  passed i k walked lt f = walked ∙ rows_more (is_child_at m es 0 (codes "Period")) (length es) k lt f
+  -- the first of the rows that are left is that of the Period i
+  pub here : (i k : ℕ) (rows rest : List ℕ) → drop i (periods m es xs) ≡ rows → rows ≡ k ∷ rest → (i < length (periods m es xs)) × (period_at m es xs i ≡ k) × (drop (i + 1) (periods m es xs) ≡ rest)
+  here i k rows rest left e = drop_here (periods m es xs) i k rest (left ∙ e)
 
-  -- there are no more rows, and no more Periods
-  pub ended : (i k : ℕ) → Walked i k → length es ≤ k → length (periods m es xs) ≤ i
-  ended i k walked le = drop-end (periods m es xs) i (walked ∙ rows_end (is_child_at m es 0 (codes "Period")) (length es) k le)
+  -- as many Periods as were to be passed have been passed
+  pub arrived : (position n : ℕ) (rows : List ℕ) (f : Option ℕ) → position < length (periods m es xs) → n ≤ position → Walked (position - n) rows f → (0 < n → rows ≡ []) → f ≡ following m es xs position
+  arrived position n rows f there few walked none =
+      elim (cases_lt 0 n) [
+        | inl some ↦ let past = drop-end (periods m es xs) (position - n) (walked.left ∙ none some) in absurd (omega arith)
+        | inr all ↦ let e : position - n ≡ position = omega arith in walked.before ∙ ap (following m es xs) e
+      ]
 
   -- where the Period of the row k starts, and where the next one does if it states no start
   pub start_here : (i k : ℕ) → period_at m es xs i ≡ k → (o f s : Option ℕ) → s ≡ present duration_of (value_of m xs k (codes "start")) → f ≡ following m es xs i → o ≡ option_or s f → o ≡ start_of m es xs i

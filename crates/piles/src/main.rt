@@ -4,22 +4,17 @@
 use address::Parts;
 use bottom::Placed;
 use head::Head;
-use output::Mark;
+use output::{Mark, Output};
 use std::io;
 use std::io::Write;
 use timeline::{Addressed, Cut, Even, Run, Shift, Timeline, Written};
 
 // Two layers that take one tick off and keep the rest.
-macro_rules! later {
-    ($below:expr) => {
-        Cut {
-            below: Shift {
-                below: $below,
-                by: 1,
-            },
-            at: u64::MAX,
-        }
-    };
+fn later<T>(below: T) -> Cut<Shift<T>> {
+    Cut {
+        below: Shift { below, by: 1 },
+        at: u64::MAX,
+    }
 }
 
 // Prints each segment with its address.
@@ -31,11 +26,13 @@ fn print_timeline<T: Addressed>(rt: &HostRuntime, timeline: &T) -> io::Result<()
         };
         let mut bytes = [0u8; 64];
         let mut mark = Mark { used: 0 };
-        let answer = timeline.write_address(place, &mut bytes, &mut mark);
+        let _ = timeline.write_address(place, &mut bytes, &mut mark);
+        let out = Output {
+            bytes: &mut bytes,
+            mark,
+        };
         print!(rt; "{} {} {} ", segment.number, segment.start, segment.length)?;
-        if answer.is_ok() && mark.used <= bytes.len() {
-            rt.stdout().write_all(&bytes[0..mark.used])?;
-        }
+        rt.stdout().write_all(out.written())?;
         println!(rt; "")?;
     }
     Ok(())
@@ -55,15 +52,15 @@ fn print_seeks<T: Timeline>(rt: &HostRuntime, timeline: &T, times: &[u64]) -> io
 
 // Puts six layers more over the timeline, three times, and prints what the pile tells.
 fn print_pile<T: Addressed + Drop>(rt: &HostRuntime, below: T, times: &[u64]) -> io::Result<()> {
-    print_higher(rt, later!(later!(later!(below))), times)
+    print_higher(rt, later(later(later(below))), times)
 }
 
 fn print_higher<T: Addressed + Drop>(rt: &HostRuntime, below: T, times: &[u64]) -> io::Result<()> {
-    print_highest(rt, later!(later!(later!(below))), times)
+    print_highest(rt, later(later(later(below))), times)
 }
 
 fn print_highest<T: Addressed + Drop>(rt: &HostRuntime, below: T, times: &[u64]) -> io::Result<()> {
-    let pile = later!(later!(later!(below)));
+    let pile = later(later(later(below)));
     print_timeline(rt, &pile)?;
     print_seeks(rt, &pile, times)
 }

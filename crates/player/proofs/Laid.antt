@@ -7,7 +7,7 @@ use Rattle.head.specs.declared.step.Step.{Step}
 use Rattle.presentation.specs.Lists.{bottom_of, timeline_of, addresses_of}
 use Rattle.presentation.specs.declared.plan.Plan.{Plan}
 use Rattle.resolve.proofs.Addresses.{same_address}
-use Rattle.resolve.specs.Values.{values_of, bottom_by, timeline_by, address_by}
+use Rattle.resolve.specs.Values.{values_of, bottom_by, Whole, timeline_by, address_by}
 use Rattle.timeline.specs.Layers.{shifted, cut_off}
 use Rattle.timeline.specs.Segments.{blank, ended_by}
 use Rattle.timeline.specs.declared.run.Run.{Run}
@@ -15,7 +15,7 @@ use Rattle.timeline.specs.declared.segment.Segment.{Segment}
 use Rattle.player.proofs.Agreeing.{same_replays}
 
 -- the rows are the runs, of which the bottom timeline is whole
-module _ (p : Plan) (rows runs : List Run) (are : rows ≡ runs) (whole : bottom_of p runs ≡ bottom_by (values_of p) runs) where
+module _ (p : Plan) (rows runs : List Run) (are : rows ≡ runs) (whole : Whole p runs) where
   pub bottom_is : bottom_of p rows ≡ bottom_by (values_of p) runs
   bottom_is = ap (bottom_of p) are ∙ whole
 

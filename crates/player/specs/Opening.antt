@@ -1,5 +1,12 @@
 -- From a manifest's bytes to its values and runs.
 use Rattle.std.specs.Prelude.{◌≡◌, ℕ, List, [], Ok, Err, Result}
+use Rattle.chosen.specs.declared.Positions.{Positions}
+use Rattle.tables.specs.Leaving.{Filled}
+use Rattle.tables.specs.Rows.{capacity}
+use Rattle.tables.specs.declared.manifest.ManifestRows.{ManifestRows}
+use Rattle.tables.specs.declared.store.Table.{Table}
+use Rattle.timeline.specs.Runs.{no_run}
+use Rattle.reader.specs.Outcomes.{Tabled}
 use Rattle.reader.specs.Machine.{Outcome, accepted, refused, reading}
 use Rattle.resolve.specs.Outcome.{outcome, runs_left}
 use Rattle.resolve.specs.Values.{Values, bottom_by, written_by}
@@ -32,6 +39,18 @@ opened m E A R i j = opened_by m R i j (reading m E A)
 -- and its runs: none after a refusal
 abbrev pub opened_runs : List ℕ → ℕ → ℕ → ℕ → ℕ → ℕ → List Run
 opened_runs m E A R i j = runs_by m R i j (reading m E A)
+
+-- the same with these tables, for these positions
+abbrev pub opened_into : List ℕ → Positions → ManifestRows → Table Run → Result Values OpenFault
+opened_into m at t r = opened m (capacity t.elements) (capacity t.attributes) (capacity r) at.period at.representation
+
+abbrev pub runs_into : List ℕ → Positions → ManifestRows → Table Run → List Run
+runs_into m at t r = opened_runs m (capacity t.elements) (capacity t.attributes) (capacity r) at.period at.representation
+
+-- the tables t' and r' are t and r with the rows of the manifest and its runs
+pub record Left (m : List ℕ) (at : Positions) (t : ManifestRows) (r : Table Run) (t' : ManifestRows) (r' : Table Run) : Type 0 where
+  pub rows : Tabled m t t'
+  pub runs : Filled no_run r (runs_into m at t r) r'
 
 -- the sums of a manifest with these values and runs: what is listed and the parts that are cut away add up to what it writes
 pub record SumsOf (v : Values) (runs : List Run) (s : Sums) : Type 0 where

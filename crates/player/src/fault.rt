@@ -7,12 +7,13 @@ use reader::ReadFault;
 use resolve::ResolveFault;
 
 // The refusal of the step that refused it, whole.
-#[derive(Clone, Copy)]
+#[derive(Clone, Copy, Debug, PartialEq, Eq)]
 pub enum OpenFault {
     Read(ReadFault),
     Resolve(ResolveFault),
 }
 
+// By hand, so that a clause can name what `?` makes.
 impl From<ReadFault> for OpenFault {
     ghost from_gives = { λ e r. r ≡ Read e };
 
@@ -21,6 +22,7 @@ impl From<ReadFault> for OpenFault {
     }
 }
 
+// By hand, so that a clause can name what `?` makes.
 impl From<ResolveFault> for OpenFault {
     ghost from_gives = { λ e r. r ≡ Resolve e };
 

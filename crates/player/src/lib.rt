@@ -4,5 +4,6 @@
 mod fault;
 mod screening;
 
+pub use chosen::Positions;
 pub use fault::OpenFault;
-pub use screening::{Positions, open, screen, tally};
+pub use screening::{open, screen, tally};

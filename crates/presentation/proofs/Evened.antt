@@ -1,6 +1,7 @@
--- The even timeline as one run, and the sums of a timeline with no segments.
-use Rattle.std.proofs.Common.{◌≡◌, ℕ, ◌+◌, ◌*◌, ◌≤◌, Bool, true, false, leb, List, [], ◌∷◌, length, sym, refl, ap, ◌∙◌, subst, inl, inr, append-nil, zero-add, arith}
-use Rattle.std.proofs.lemmas.Bool.{and_parts, and_from, le-leb, cases_Bool}
+-- The even timeline as one run.
+use Rattle.std.proofs.Common.{◌≡◌, ℕ, ◌≤◌, Bool, true, false, List, [], ◌∷◌, length, sym, ap, ◌∙◌, subst, inl, inr, append-nil, arith}
+use Rattle.std.proofs.lemmas.Bool.{cases_Bool}
+use Rattle.std.proofs.lemmas.Bool.Decides.{nat_tests}
 use Rattle.bottom.specs.Placing.{unless}
 use Rattle.timeline.specs.Evenly.{even_run, evenly, ceiling, fair, even_list}
 use Rattle.timeline.specs.Laws.Expands.{length_run}
@@ -13,29 +14,13 @@ use Rattle.presentation.specs.declared.plan.Kind.{Kind}
 use Rattle.presentation.specs.declared.plan.Kind.TheVariants.{Even}
 use Rattle.presentation.specs.declared.sums.Sums.{Sums}
 
--- no segments have no sums
-pub accounts_none : (xs : List Segment) (offset period : ℕ) → length xs ≡ 0 → Accounts xs offset period (record { listed = 0; before = 0; after = 0; written = 0 })
-accounts_none [] offset period e = record { listed = refl; before = refl; after = refl; written = refl; whole = refl }
-accounts_none (x ∷ xs) offset period e = absurd (omega arith)
-
-pub length-unless : (b : Bool) (xs : List Segment) → length xs ≡ 0 → length (unless b xs) ≡ 0
-length-unless true xs e = refl
-length-unless false xs e = e
-
 -- an even timeline that has segments is a fair run
 pub record OneRun (first duration period count : ℕ) : Type 0 where
   pub fair_one : fair_from 0 (even_run duration count ∷ []) ≡ true
   pub list : even_list first duration period ≡ expanded first (even_run duration count ∷ [])
 
-from_zero : (m n : ℕ) → leb m n ≡ true → leb (0 + m) n ≡ true
-from_zero m n h = rw zero-add h
-
 fair_even : (first duration n : ℕ) → 1 ≤ n → fair first duration n ≡ true → fair_from 0 (even_run duration n ∷ []) ≡ true
-fair_even first duration n some passes =
-    let a = and_parts _ _ passes in
-    let b = and_parts (leb n 2147483647) _ a.1 in
-    let c = and_parts (leb (first + n) 4294967296) _ b.1 in
-    and_from _ _ (and_from _ _ (le-leb 1 n some) (and_from _ _ (and_parts _ _ a.0).0 (and_from _ _ refl (from_zero (n * duration) 9007199254740992 c.1)))) refl
+fair_even first duration n some passes = grind (arith, nat_tests)
 
 one_run : (first duration period count : ℕ) → 1 ≤ count → count ≡ length (even_list first duration period) → OneRun first duration period count
 one_run first duration period count some many =

@@ -56,12 +56,6 @@ sum-fair f slow from (r ∷ rs) fair h =
       sum_by-cons (span_of f) r rs,
     )
 
--- a fair run ends by the last tick
-pub fair_end : (from : ℕ) (runs : List Run) → fair_from from runs ≡ true → (i : ℕ) (d : Run) → i < length runs → run_end (get_or runs i d) ≤ 9007199254740992
-fair_end from [] fair i d h = absurd (omega arith)
-fair_end from (r ∷ rs) fair zero d h = (fair_parts from r rs fair).within
-fair_end from (r ∷ rs) fair (suc i) d h = fair_end (run_end r) rs (fair_parts from r rs fair).rest i d (omega arith)
-
 -- the sum so far and one run more is no later than the last tick
 pub sum_room : (f : ℕ → ℕ) → ((m n : ℕ) → m ≤ n → f n - f m ≤ n - m) → (runs : List Run) → fair_from 0 runs ≡ true → (i : ℕ) (d : Run) → i < length runs → sum_by (span_of f) (take i runs) + span_of f (get_or runs i d) ≤ 9007199254740992
 sum_room f slow runs fair i d h =

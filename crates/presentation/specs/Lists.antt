@@ -1,5 +1,5 @@
 -- The segments and addresses of a manifest's timeline, by what it is made from.
-use Rattle.std.specs.Prelude.{ℕ, ◌+◌, Bool, true, false, cond, List}
+use Rattle.std.specs.Prelude.{ℕ, ◌+◌, List}
 use Rattle.template.specs.Reading.{broken}
 use Rattle.timeline.specs.Bottoms.{of_written, of_even, sound_written, sound_even}
 use Rattle.timeline.specs.Evenly.{even_list}
@@ -10,6 +10,7 @@ use Rattle.timeline.specs.declared.run.Run.{Run}
 use Rattle.timeline.specs.declared.segment.Segment.{Segment}
 use Rattle.bottom.specs.Placing.{unless, address_at}
 use Rattle.presentation.specs.declared.laid.Bottom.{Bottom}
+use Rattle.presentation.specs.declared.laid.Bottom.TheVariants.{Written as OfRuns, Even as OfDuration}
 use Rattle.presentation.specs.declared.plan.Kind.{Kind}
 use Rattle.presentation.specs.declared.plan.Kind.TheVariants.{Written, Even}
 use Rattle.presentation.specs.declared.plan.Plan.{Plan}
@@ -33,11 +34,9 @@ addresses_of p runs place = address_at p.parts (bottom_of p runs) (ended_by (bot
 
 -- the segments of a bottom timeline of either kind
 abbrev pub of_bottom : Bottom → List Segment
-of_bottom b = cond b.is_even (of_even b.even) (of_written b.written)
-
-sound_either : (is-even : Bool) (xs ys : List Segment) → Sound xs → Sound ys → Sound (cond is-even xs ys)
-sound_either true xs ys s t = s
-sound_either false xs ys s t = t
+of_bottom (OfRuns t) = of_written t
+of_bottom (OfDuration e) = of_even e
 
 pub sound_bottom : (b : Bottom) → Sound (of_bottom b)
-sound_bottom b = sound_either b.is_even (of_even b.even) (of_written b.written) (sound_even b.even) (sound_written b.written)
+sound_bottom (OfRuns t) = sound_written t
+sound_bottom (OfDuration e) = sound_even e

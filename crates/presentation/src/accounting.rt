@@ -10,14 +10,6 @@ use crate::sums::Sums;
 use template::is_broken;
 use timeline::{Run, Timeline};
 
-// The sums of no segments.
-const NOTHING: Sums = Sums {
-    listed: 0,
-    before: 0,
-    after: 0,
-    written: 0,
-};
-
 // The part of the time from a start to an end that lies before the tick.
 fn part_before(start: u64, end: u64, tick: u64) -> u64
     ensures { result ≡ min end tick - min start tick }
@@ -25,11 +17,10 @@ fn part_before(start: u64, end: u64, tick: u64) -> u64
     end.min(tick).saturating_sub(start.min(tick))
 }
 
-// The part of it that lies after the end of the period from the offset.
-fn part_after(start: u64, end: u64, offset: u64, period: u64) -> u64
-    ensures { result ≡ max end (offset + period) - max start (offset + period) }
+// The part of it that lies after the tick.
+fn part_after(start: u64, end: u64, tick: u64) -> u64
+    ensures { result ≡ max end tick - max start tick }
 {
-    let tick = offset.saturating_add(period);
     end.max(tick).saturating_sub(start.max(tick))
 }
 
@@ -38,13 +29,14 @@ fn sums_of(runs: &[Run], offset: u64, period: u64) -> Sums
     requires { fair_from 0 runs.now ≡ true }
     ensures { (first : ℕ) → Accounts (expanded first runs.now) offset period result }
 {
+    let until = offset.saturating_add(period);
     let mut before: u64 = 0;
     let mut after: u64 = 0;
     let mut written: u64 = 0;
     'runs: for run in runs {
-        let end = run.start + run.count as u64 * run.length;
+        let end = run.end();
         before += part_before(run.start, end, offset);
-        after += part_after(run.start, end, offset, period);
+        after += part_after(run.start, end, until);
         written += end - run.start;
     }
     Sums {
@@ -60,11 +52,11 @@ pub fn account(plan: &Plan, runs: &[Run]) -> Sums
     ensures { Accounts (bottom_of plan.now runs.now) plan.now.offset plan.now.period result }
 {
     if is_broken(plan.parts.template) {
-        return NOTHING;
+        return Sums::default();
     }
-    let count = bottom_of(plan.kind, plan.first, plan.period, runs).count();
+    let count = bottom_of(plan, runs).count();
     if count == 0 {
-        return NOTHING;
+        return Sums::default();
     }
     match plan.kind {
         Kind::Written => sums_of(runs, plan.offset, plan.period),

@@ -9,12 +9,11 @@ use crate::plan::{Kind, Plan};
 use bottom::Placed;
 use timeline::{Cut, Even, NoSuchPlace, Run, Segment, Shift, Timeline, Written};
 
-// A bottom timeline of either kind.
+// A bottom timeline of either kind. It chooses by hand, since a `dyn` may not be handed out.
 #[derive(Clone, Copy)]
-pub struct Bottom<'a> {
-    written: Written<'a>,
-    even: Even,
-    is_even: bool,
+pub enum Bottom<'a> {
+    Written(Written<'a>),
+    Even(Even),
 }
 
 impl<'a> Timeline for Bottom<'a> {
@@ -23,42 +22,23 @@ impl<'a> Timeline for Bottom<'a> {
     ghost sound = { sound_bottom };
 
     fn count(&self) -> u32 {
-        if self.is_even {
-            self.even.count()
-        } else {
-            self.written.count()
+        match self {
+            Bottom::Written(written) => written.count(),
+            Bottom::Even(even) => even.count(),
         }
     }
 
     fn segment(&self, place: u32) -> Result<Segment, NoSuchPlace> {
-        if self.is_even {
-            self.even.segment(place)
-        } else {
-            self.written.segment(place)
+        match self {
+            Bottom::Written(written) => written.segment(place),
+            Bottom::Even(even) => even.segment(place),
         }
     }
 
     fn ended(&self, tick: u64) -> u32 {
-        if self.is_even {
-            self.even.ended(tick)
-        } else {
-            self.written.ended(tick)
-        }
-    }
-
-    fn within(&self, from: u64, to: u64) -> u32 {
-        if self.is_even {
-            self.even.within(from, to)
-        } else {
-            self.written.within(from, to)
-        }
-    }
-
-    fn nth_after(&self, from: u64, nth: u32) -> Result<Segment, NoSuchPlace> {
-        if self.is_even {
-            self.even.nth_after(from, nth)
-        } else {
-            self.written.nth_after(from, nth)
+        match self {
+            Bottom::Written(written) => written.ended(tick),
+            Bottom::Even(even) => even.ended(tick),
         }
     }
 }
@@ -66,21 +46,13 @@ impl<'a> Timeline for Bottom<'a> {
 // A cut at the Period's length over a shift by the offset over the bottom timeline.
 pub type ManifestTimeline<'a> = Cut<Shift<Placed<'a, Bottom<'a>>>>;
 
-// The bottom timeline of the kind.
-pub(crate) fn bottom_of<'a>(kind: Kind, first: u32, period: u64, runs: &'a [Run]) -> Bottom<'a>
-    ensures { of_bottom result ≡ given_by kind first period runs.now }
+// The bottom timeline of the plan's kind.
+pub(crate) fn bottom_of<'a>(plan: &Plan, runs: &'a [Run]) -> Bottom<'a>
+    ensures { of_bottom result ≡ given_by plan.now.kind plan.now.first plan.now.period runs.now }
 {
-    match kind {
-        Kind::Written => Bottom {
-            written: Written::new(first, runs),
-            even: Even::new(0, 0, 0),
-            is_even: false,
-        },
-        Kind::Even(duration) => Bottom {
-            written: Written::new(0, &[]),
-            even: Even::new(first, duration, period),
-            is_even: true,
-        },
+    match plan.kind {
+        Kind::Written => Bottom::Written(Written::new(plan.first, runs)),
+        Kind::Even(duration) => Bottom::Even(Even::new(plan.first, duration, plan.period)),
     }
 }
 
@@ -93,10 +65,9 @@ pub fn lay_out<'a>(plan: Plan<'a>, runs: &'a [Run]) -> ManifestTimeline<'a>
     ensures list { cut_off result.at (shifted result.below.by (unless result.below.below.torn (of_bottom result.below.below.below))) ≡ timeline_of plan.entry runs.now }
     ensures address { (place : ℕ) → place < length (timeline_of plan.entry runs.now) → address_at result.below.below.parts (of_bottom result.below.below.below) (ended_by (unless result.below.below.torn (of_bottom result.below.below.below)) result.below.by + place) ≡ addresses_of plan.entry runs.now place }
 {
-    let bottom = bottom_of(plan.kind, plan.first, plan.period, runs);
     Cut {
         below: Shift {
-            below: Placed::new(bottom, plan.parts),
+            below: Placed::new(bottom_of(&plan, runs), plan.parts),
             by: plan.offset,
         },
         at: plan.period,

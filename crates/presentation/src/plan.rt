@@ -2,7 +2,7 @@
 use address::Parts;
 
 // How a manifest gives its segments: by S elements, which are runs, or by an even duration in ticks.
-#[derive(Clone, Copy)]
+#[derive(Clone, Copy, Debug, PartialEq, Eq)]
 pub enum Kind {
     Written,
     Even(u64),

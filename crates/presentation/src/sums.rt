@@ -2,7 +2,7 @@
 
 // In ticks: the listed lengths, the parts before the offset and after the Period's end, and what the
 // S elements or the duration give.
-#[derive(Clone, Copy, Debug, PartialEq, Eq)]
+#[derive(Clone, Copy, Debug, Default, PartialEq, Eq)]
 pub struct Sums {
     pub listed: u64,
     pub before: u64,

@@ -1,7 +1,7 @@
 pub mod Runs
+pub mod Cursor
 pub mod Lexing
 pub mod Tags
 pub mod Names
-pub mod Keeping
 pub mod Outside
-pub mod Elements
+pub mod Gaining

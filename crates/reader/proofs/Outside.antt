@@ -1,78 +1,72 @@
 -- The bytes between tags, and those that begin a tag or a comment.
-use Rattle.std.proofs.Common.{◌≡◌, ℕ, ◌+◌, ◌<◌, ◌≤◌, Bool, true, false, cond, ◌&&◌, ◌||◌, eqb, ltb, List, [], ◌∷◌, length, get_or, drop, sym, refl, ap, ◌∙◌, ⊎_elim, arith}
-use Rattle.std.specs.List.{prefix_len}
-use Rattle.std.proofs.lemmas.Bool.{eq-eqb, ne_eqb, lt-ltb, cases_lt, cases_eq, and_from, cond-true, cond-false}
+use Rattle.std.proofs.Common.{◌≡◌, ℕ, ◌+◌, ◌<◌, ◌≤◌, Bool, true, false, cond, ◌&&◌, ◌||◌, eqb, ltb, List, [], ◌∷◌, length, get_or, sym, refl, ap, ◌∙◌, ⊎_elim, arith}
+use Rattle.std.proofs.lemmas.Bool.{eq-eqb, ne_eqb, lt-ltb, cases_lt, cases_eq, and_left, and_right, and_from, cond-true, cond-false}
 use Rattle.reader.specs.Bytes.{blank, begins}
+use Rattle.reader.specs.Cursor.{comes, Onward, Stands, Lacks, Ran}
 use Rattle.reader.specs.Machine.{Document, start, begun, declaration, outside, angle, word, comment, naming, close, closing, closed, wrong, accepted, refused, inside, rootless, finished, nothing, shut, passes, step, from}
+use Rattle.reader.specs.Outcomes.{fault}
+use Rattle.reader.specs.declared.fault.ReadFault.{ReadFault}
 use Rattle.reader.specs.declared.fault.ReadRefusal.TheVariants.{Grammar, Ampersand}
-use Rattle.reader.proofs.Runs.{from_end, from_to, to_wrong, from_same, from_stays}
+use Rattle.reader.specs.declared.lexer.Reader.{Reader}
+use Rattle.reader.proofs.Cursor.{either_wrong, stood, steps, agree, fails, over, runs, stays}
+use Rattle.reader.proofs.Runs.{from_end, from_to, from_same}
 use Rattle.reader.proofs.Tags.{goes_on}
 
--- one of two refusals
-either_wrong : (t : Bool) (at : ℕ) → cond t (wrong Ampersand at) (wrong Grammar at) ≡ wrong (cond t Ampersand Grammar) at
-either_wrong true at = refl
-either_wrong false at = refl
-
-module _ (m : List ℕ) (E A : ℕ) (d : Document) where
+module _ (E A : ℕ) (d : Document) where
   -- what passes between tags
-  module _ (at end : ℕ) (b : end ≡ at + prefix_len (passes (inside d)) (drop at m)) where
-    to_outside : from m E A (outside d) at ≡ from m E A (outside d) end
-    to_outside = from_stays m E A (outside d) (passes (inside d)) (λ i x y. cond-true _ _ _ y) at end b
+  module _ (i : Bool) {r q : Reader} (ran : Ran (passes i) r q) (is : i ≡ inside d) where
+    to_outside : comes r E A (outside d) ≡ comes q E A (outside d)
+    to_outside = stays E A ran (outside d) (λ at b y. cond-true _ _ _ (ap (λ t. passes t b) (sym is) ∙ y))
 
-    pub outside_done : length m ≤ end → finished d ≡ true → from m E A (outside d) at ≡ accepted d.elements d.attributes
-    outside_done h f = to_outside ∙ from_end m E A (outside d) end h ∙ cond-true _ _ _ f
+    pub outside_done : length q.src.now ≤ q.pos → finished d ≡ true → comes r E A (outside d) ≡ accepted d.elements d.attributes
+    outside_done h f = to_outside ∙ over E A q h (outside d) ∙ cond-true _ _ _ f
 
-    pub outside_ends : length m ≤ end → finished d ≡ false → from m E A (outside d) at ≡ refused Grammar end
-    outside_ends h f = to_outside ∙ from_end m E A (outside d) end h ∙ cond-false _ _ _ f
+    pub outside_ends : length q.src.now ≤ q.pos → finished d ≡ false → comes r E A (outside d) ≡ refused Grammar q.pos
+    outside_ends h f = to_outside ∙ over E A q h (outside d) ∙ cond-false _ _ _ f
 
-    module _ (h : end < length m) (stops : passes (inside d) (get_or m end 0) ≡ false) where
-      pub outside_angle : get_or m end 0 ≡ 60 → from m E A (outside d) at ≡ from m E A (angle d) (end + 1)
-      outside_angle y = to_outside ∙ from_to m E A (outside d) (angle d) end h (cond-false _ _ _ stops ∙ cond-true _ _ _ (eq-eqb _ 60 y))
+    module _ {b : ℕ} (st : Stands q b) where
+      no_pass : passes (inside d) b ≡ false
+      no_pass = ap (λ t. passes t b) (sym is) ∙ ap (passes i) st.is ∙ ran.stops st.before
 
-      pub outside_other : (get_or m end 0 ≡ 60 → ⊥) → from m E A (outside d) at ≡ refused (cond (inside d && eqb (get_or m end 0) 38) Ampersand Grammar) end
-      outside_other n = to_outside ∙ to_wrong m E A (outside d) (cond (inside d && eqb (get_or m end 0) 38) Ampersand Grammar) end end h (cond-false _ _ _ stops ∙ cond-false _ _ _ (ne_eqb _ 60 n) ∙ either_wrong (inside d && eqb (get_or m end 0) 38) end)
+      pub outside_angle : b ≡ 60 → {s : Reader} → Onward q s → s.pos ≡ q.pos + 1 → comes r E A (outside d) ≡ comes s E A (angle d)
+      outside_angle y on pos = to_outside ∙ steps E A st on pos (outside d) (angle d) (cond-false _ _ _ no_pass ∙ cond-true _ _ _ (eq-eqb b 60 y))
+
+      pub outside_other : (b ≡ 60 → ⊥) → comes r E A (outside d) ≡ refused (cond (i && eqb b 38) Ampersand Grammar) q.pos
+      outside_other n = to_outside ∙ fails E A st (outside d) _ q.pos (cond-false _ _ _ no_pass ∙ cond-false _ _ _ (ne_eqb b 60 n) ∙ ap (λ t. cond (t && eqb b 38) (wrong Ampersand q.pos) (wrong Grammar q.pos)) (sym is) ∙ either_wrong (i && eqb b 38) q.pos)
 
   -- the byte behind a '<'
-  module _ (at : ℕ) where
-    pub angle_ends : length m ≤ at → from m E A (angle d) at ≡ refused Grammar at
-    angle_ends h = from_end m E A (angle d) at h
+  module _ {r : Reader} {b : ℕ} (st : Stands r b) where
+    pub angle_comment : b ≡ 33 → {q : Reader} → Onward r q → q.pos ≡ r.pos + 1 → comes r E A (angle d) ≡ comes q E A (word 45 (45 ∷ []) (comment 0 d))
+    angle_comment y on pos = steps E A st on pos (angle d) (word 45 (45 ∷ []) (comment 0 d)) (cond-true _ _ _ (eq-eqb b 33 y))
 
-    pub close_ends : length m ≤ at → from m E A (close d) at ≡ refused Grammar at
-    close_ends h = from_end m E A (close d) at h
+    module _ (n : b ≡ 33 → ⊥) where
+      pub angle_close : b ≡ 47 → inside d ≡ true → {q : Reader} → Onward r q → q.pos ≡ r.pos + 1 → comes r E A (angle d) ≡ comes q E A (close d)
+      angle_close y i on pos = steps E A st on pos (angle d) (close d) (cond-false _ _ _ (ne_eqb b 33 n) ∙ cond-true _ _ _ (eq-eqb b 47 y) ∙ cond-true _ _ _ i)
 
-    module _ (h : at < length m) where
-      pub angle_comment : get_or m at 0 ≡ 33 → from m E A (angle d) at ≡ from m E A (word 45 (45 ∷ []) (comment 0 d)) (at + 1)
-      angle_comment y = from_to m E A (angle d) (word 45 (45 ∷ []) (comment 0 d)) at h (cond-true _ _ _ (eq-eqb _ 33 y))
+      pub angle_stray : b ≡ 47 → inside d ≡ false → comes r E A (angle d) ≡ refused Grammar r.pos
+      angle_stray y i = fails E A st (angle d) Grammar r.pos (cond-false _ _ _ (ne_eqb b 33 n) ∙ cond-true _ _ _ (eq-eqb b 47 y) ∙ cond-false _ _ _ i)
 
-      module _ (n : get_or m at 0 ≡ 33 → ⊥) where
-        pub angle_close : get_or m at 0 ≡ 47 → inside d ≡ true → from m E A (angle d) at ≡ from m E A (close d) (at + 1)
-        angle_close y i = from_to m E A (angle d) (close d) at h (cond-false _ _ _ (ne_eqb _ 33 n) ∙ cond-true _ _ _ (eq-eqb _ 47 y) ∙ cond-true _ _ _ i)
+      module _ (k : b ≡ 47 → ⊥) where
+        pub angle_other : {f : ReadFault} → Lacks begins r × (f ≡ fault Grammar r.pos) → comes r E A (angle d) ≡ refused f.refusal f.byte
+        angle_other h =
+            fails E A st (angle d) Grammar r.pos (cond-false _ _ _ (ne_eqb b 33 n) ∙ cond-false _ _ _ (ne_eqb b 47 k) ∙ cond-false _ _ _ (and_left (begins b) (inside d || rootless d) (ap begins st.is ∙ h.0 st.before)))
+            ∙ ap (λ z. refused z.refusal z.byte) (sym h.1)
 
-        pub angle_stray : get_or m at 0 ≡ 47 → inside d ≡ false → from m E A (angle d) at ≡ refused Grammar at
-        angle_stray y i = to_wrong m E A (angle d) Grammar at at h (cond-false _ _ _ (ne_eqb _ 33 n) ∙ cond-true _ _ _ (eq-eqb _ 47 y) ∙ cond-false _ _ _ i)
+        pub angle_stop : (inside d || rootless d) ≡ false → comes r E A (angle d) ≡ refused Grammar r.pos
+        angle_stop f = fails E A st (angle d) Grammar r.pos (cond-false _ _ _ (ne_eqb b 33 n) ∙ cond-false _ _ _ (ne_eqb b 47 k) ∙ cond-false _ _ _ (and_right (begins b) (inside d || rootless d) f))
 
-        module _ (k : get_or m at 0 ≡ 47 → ⊥) where
-          pub angle_other : (begins (get_or m at 0) && (inside d || rootless d)) ≡ false → from m E A (angle d) at ≡ refused Grammar at
-          angle_other f = to_wrong m E A (angle d) Grammar at at h (cond-false _ _ _ (ne_eqb _ 33 n) ∙ cond-false _ _ _ (ne_eqb _ 47 k) ∙ cond-false _ _ _ f)
+        pub angle_name : {c : ℕ} → Stands r c × (begins c ≡ true) → (inside d || rootless d) ≡ true → comes r E A (angle d) ≡ comes r E A (naming d r.pos)
+        angle_name h f =
+            let y = stood begins st h in
+            agree E A st (angle d) (naming d r.pos) (cond-false _ _ _ (ne_eqb b 33 n) ∙ cond-false _ _ _ (ne_eqb b 47 k) ∙ cond-true _ _ _ (and_from _ _ y f) ∙ sym (cond-true _ _ _ (goes_on b y)))
 
-          pub angle_name : begins (get_or m at 0) ≡ true → (inside d || rootless d) ≡ true → from m E A (angle d) at ≡ from m E A (naming d at) at
-          angle_name y f =
-              from_to m E A (angle d) (naming d at) at h (cond-false _ _ _ (ne_eqb _ 33 n) ∙ cond-false _ _ _ (ne_eqb _ 47 k) ∙ cond-true _ _ _ (and_from _ _ y f))
-              ∙ sym (from_to m E A (naming d at) (naming d at) at h (cond-true _ _ _ (goes_on (get_or m at 0) y)))
-
-      pub close_other : begins (get_or m at 0) ≡ false → from m E A (close d) at ≡ refused Grammar at
-      close_other f = to_wrong m E A (close d) Grammar at at h (cond-false _ _ _ f)
-
-      pub close_name : begins (get_or m at 0) ≡ true → from m E A (close d) at ≡ from m E A (closing d at) at
-      close_name y =
-          from_to m E A (close d) (closing d at) at h (cond-true _ _ _ y)
-          ∙ sym (from_to m E A (closing d at) (closing d at) at h (cond-true _ _ _ (goes_on (get_or m at 0) y)))
+  -- the name of a closing tag begins
+  pub close_name : {r : Reader} {b : ℕ} → Stands r b × (begins b ≡ true) → comes r E A (close d) ≡ comes r E A (closing d r.pos)
+  close_name {r} {b} h = agree E A h.0 (close d) (closing d r.pos) (cond-true _ _ _ h.1 ∙ sym (cond-true _ _ _ (goes_on b h.1)))
 
   -- blanks behind the name of a closing tag, and then a '>'
-  pub to_closed : (at end : ℕ) → end ≡ at + prefix_len blank (drop at m) → (end < length m → blank (get_or m end 0) ≡ false) → from m E A (closed d) at ≡ from m E A (word 62 [] (outside (shut d))) end
-  to_closed at end b stops =
-      from_stays m E A (closed d) blank (λ i x y. cond-true _ _ _ y) at end b
-      ∙ from_same m E A (closed d) (word 62 [] (outside (shut d))) end (λ lt. cond-false _ _ _ (stops lt)) refl
+  pub to_closed : {r q : Reader} → Ran blank r q → comes r E A (closed d) ≡ comes q E A (word 62 [] (outside (shut d)))
+  to_closed ran = runs E A ran (closed d) (word 62 [] (outside (shut d))) (λ i x y. cond-true _ _ _ y) (λ b n. cond-false _ _ _ n) refl
 
 -- the first bytes
 module _ (m : List ℕ) (E A : ℕ) where

@@ -1,11 +1,9 @@
 -- How a reading goes on from one byte to the next.
-use Rattle.std.proofs.Common.{◌≡◌, ℕ, ◌+◌, ◌<◌, ◌≤◌, Bool, true, false, cond, List, [], ◌∷◌, length, get_or, drop, Result, sym, refl, ap, ◌∙◌, ⊎_elim, add-zero, add_assoc, one-add}
+use Rattle.std.proofs.Common.{◌≡◌, ℕ, ◌+◌, ◌<◌, ◌≤◌, Bool, true, false, cond, List, [], ◌∷◌, length, get_or, drop, sym, refl, ap, ◌∙◌, ⊎_elim, add-zero, add_assoc, one-add}
 use Rattle.std.specs.List.{prefix_len}
 use Rattle.std.proofs.lemmas.List.{at_drop_more, at_drop_all, drop-drop as drops}
 use Rattle.std.proofs.lemmas.Bool.{cases_lt}
 use Rattle.reader.specs.Machine.{State, wrong, refused, step, ended, run, from}
-use Rattle.reader.specs.Outcomes.{went}
-use Rattle.reader.specs.declared.fault.ReadFault.{ReadFault}
 use Rattle.reader.specs.declared.fault.ReadRefusal.{ReadRefusal}
 
 module _ (m : List ℕ) (E A : ℕ) where
@@ -63,11 +61,3 @@ module _ (m : List ℕ) (E A : ℕ) where
         run_stays (drop at m) at
         ∙ ap (λ l. run m E A s (at + prefix_len p (drop at m)) l) (drops (prefix_len p (drop at m)) at m)
         ∙ ap (λ k. run m E A s k (drop k m)) (sym e)
-
--- the same bytes at the same place, told of another slice
-pub carry : {X : Type 0} (m m₁ : List ℕ) (E A : ℕ) (s : State) (p p₁ q : ℕ) (r : Result X ReadFault) (t : X → State) → p₁ ≡ p → m₁ ≡ m → from m₁ E A s p₁ ≡ went r (λ x. from m₁ E A (t x) q) → from m E A s p ≡ went r (λ x. from m E A (t x) q)
-carry m m₁ E A s p p₁ q r t at same h =
-    ap (λ i. from m E A s i) (sym at)
-    ∙ ap (λ l. from l E A s p₁) (sym same)
-    ∙ h
-    ∙ ap (λ l. went r (λ x. from l E A (t x) q)) same

@@ -1,132 +1,118 @@
 -- The bytes of tags, values and texts.
-use Rattle.std.proofs.Common.{◌≡◌, ℕ, ◌+◌, ◌-◌, ◌<◌, ◌≤◌, Bool, true, false, cond, ◌&&◌, ◌||◌, eqb, ltb, List, [], length, get_or, drop, sym, refl, ap, ◌∙◌, ⊎_elim, arith}
+use Rattle.std.proofs.Common.{◌≡◌, ℕ, ◌+◌, ◌-◌, ◌<◌, ◌≤◌, Bool, true, false, cond, ◌&&◌, ◌||◌, eqb, ltb, List, [], get_or, drop, MatchResult, Result, Ok, Err, sym, refl, ap, ◌∙◌, ⊎_elim, add-zero, arith}
 use Rattle.std.specs.List.{prefix_len}
-use Rattle.std.proofs.lemmas.List.Sums.{prefix_len-drop_no, prefix_len-drop_all}
-use Rattle.std.proofs.lemmas.Bool.{eq-eqb, ne_eqb, lt-ltb, le-ltb, cases_lt, cases_Bool, cond-true, cond-false}
+use Rattle.std.proofs.lemmas.List.{get_or-drop}
+use Rattle.std.proofs.lemmas.List.Sums.{prefix_len_passes}
+use Rattle.std.proofs.lemmas.Bool.{and_left, and_right, and_from, eq-eqb, ne_eqb, lt-ltb, le-ltb, eqb-true, cases_lt, cases_eq, cond-true, cond-false}
 use Rattle.tables.specs.Zero.{span}
 use Rattle.tables.specs.declared.span.Span.{Span}
 use Rattle.reader.specs.Bytes.{blank, begins, goes, from_to as among, quotes, textual, plain}
-use Rattle.reader.specs.Machine.{Document, word, attribute, sign, quote, value, tag, text, outside, angle, slash, wrong, refused, valued, opened, emptied, step, from}
-use Rattle.reader.specs.declared.fault.ReadRefusal.TheVariants.{Grammar, Ampersand}
-use Rattle.reader.proofs.Runs.{from_end, from_to, to_wrong, from_same, from_stays}
+use Rattle.reader.specs.Machine.{Document, word, attribute, sign, quote, value, tag, text, outside, slash, wrong, refused, valued, opened, emptied, step, from}
+use Rattle.reader.specs.Cursor.{comes, Onward, Stands, Lacks, Took, Ran, Misses}
+use Rattle.reader.specs.Outcomes.{fault, went}
+use Rattle.reader.specs.declared.fault.ReadFault.{ReadFault}
+use Rattle.reader.specs.declared.fault.ReadRefusal.TheVariants.{Grammar}
+use Rattle.reader.specs.declared.lexer.Reader.{Reader}
+use Rattle.reader.proofs.Cursor.{stood, steps, takes, agree, fails, meets, alike, runs, stays, misses}
 
 -- a run that is not empty begins with a byte of the class
-pub leading-some : (p : ℕ → Bool) (m : List ℕ) (at : ℕ) → 0 < prefix_len p (drop at m) → (at < length m) × (p (get_or m at 0) ≡ true)
-leading-some p m at h =
-    ⊎_elim
-    (λ lt. (lt, ⊎_elim (λ y. y) (λ n. absurd (omega (arith, prefix_len-drop_no p m at 0 lt n))) (cases_Bool (p (get_or m at 0)))))
-    (λ le. absurd (omega (arith, prefix_len-drop_all p m at le)))
-    (cases_lt at (length m))
+leading : (p : ℕ → Bool) (m : List ℕ) (at : ℕ) → 0 < prefix_len p (drop at m) → p (get_or m at 0) ≡ true
+leading p m at h = ap (λ k. p (get_or m k 0)) (sym (add-zero at)) ∙ ap p (sym (get_or-drop at m 0 0)) ∙ prefix_len_passes p (drop at m) 0 0 h
 
 -- what begins a name goes on with it
 pub goes_on : (b : ℕ) → begins b ≡ true → goes b ≡ true
 goes_on b h = ap (λ t. t || among 48 57 b || eqb b 45 || eqb b 46) h
 
+-- whether there were blanks
+pub tight : (n k : ℕ) → n ≡ k → true ≡ eqb n 0 → ltb 0 k ≡ false
+tight n k e h = le-ltb 0 k (omega (arith, eqb-true n 0 (sym h)))
+
+pub wide : (n k : ℕ) → n ≡ k → false ≡ eqb n 0 → ltb 0 k ≡ true
+wide n k e h = ⊎_elim (λ z. let yes = eq-eqb n 0 z in cc) (λ z. lt-ltb 0 k (omega arith)) (cases_eq n 0)
+
 -- an element that was opened is open
 inside_more : (k : ℕ) → ltb 0 (k + 1) ≡ true
 inside_more k = lt-ltb 0 (k + 1) (omega arith)
 
-module _ (m : List ℕ) (E A : ℕ) where
-  -- blanks behind an attribute's name, and then a '='
-  pub to_sign : (d : Document) (e a : Span) (at end : ℕ) → end ≡ at + prefix_len blank (drop at m) → (end < length m → blank (get_or m end 0) ≡ false) → from m E A (sign d e a) at ≡ from m E A (word 61 [] (quote d e a)) end
-  to_sign d e a at end b stops =
-      from_stays m E A (sign d e a) blank (λ i x y. cond-true _ _ _ y) at end b
-      ∙ from_same m E A (sign d e a) (word 61 [] (quote d e a)) end (λ lt. cond-false _ _ _ (stops lt)) refl
+-- blanks behind an attribute's name and behind its '=', the bytes of a value and of a text
+module _ (E A : ℕ) (d : Document) (e : Span) where
+  pub to_sign : (a : Span) {r q : Reader} → Ran blank r q → comes r E A (sign d e a) ≡ comes q E A (word 61 [] (quote d e a))
+  to_sign a ran = runs E A ran (sign d e a) (word 61 [] (quote d e a)) (λ i x y. cond-true _ _ _ y) (λ b n. cond-false _ _ _ n) refl
 
-  -- blanks behind the '='
-  module _ (d : Document) (e a : Span) (at end : ℕ) (b : end ≡ at + prefix_len blank (drop at m)) (stops : end < length m → blank (get_or m end 0) ≡ false) where
-    to_quote : from m E A (quote d e a) at ≡ from m E A (quote d e a) end
-    to_quote = from_stays m E A (quote d e a) blank (λ i x y. cond-true _ _ _ y) at end b
+  pub to_value : (a : Span) {r q : Reader} → Ran blank r q → (s : Reader) (x : Result ℕ ReadFault) → MatchResult x (λ b. Took quotes q s b) (λ f. Lacks quotes q × (f ≡ fault Grammar q.pos)) → comes r E A (quote d e a) ≡ went x (λ b. comes s E A (value d e a s.pos b))
+  to_value a {r} {q} ran s (Ok b) h =
+      stays E A ran (quote d e a) (λ i x y. cond-true _ _ _ y)
+      ∙ takes E A h (quote d e a) (value d e a s.pos b) (cond-false _ _ _ (ap blank h.stood.is ∙ ran.stops h.stood.before) ∙ cond-true _ _ _ h.passed ∙ ap (λ p. value d e a p b) (sym h.pos))
+  to_value a {r} {q} ran s (Err f) h =
+      stays E A ran (quote d e a) (λ i x y. cond-true _ _ _ y)
+      ∙ meets E A q (quote d e a) Grammar q.pos (λ lt. cond-false _ _ _ (ran.stops lt) ∙ cond-false _ _ _ (h.0 lt)) refl
+      ∙ ap (λ z. refused z.refusal z.byte) (sym h.1)
 
-    pub quote_ends : length m ≤ end → from m E A (quote d e a) at ≡ refused Grammar end
-    quote_ends h = to_quote ∙ from_end m E A (quote d e a) end h
+  module _ (a : Span) (k : ℕ) {r q : Reader} (ran : Ran (plain k) r q) where
+    to_end : comes r E A (value d e a r.pos k) ≡ comes q E A (value d e a r.pos k)
+    to_end = stays E A ran (value d e a r.pos k) (λ i x y. cond-true _ _ _ y)
 
-    pub quote_other : end < length m → quotes (get_or m end 0) ≡ false → from m E A (quote d e a) at ≡ refused Grammar end
-    quote_other h q = to_quote ∙ to_wrong m E A (quote d e a) Grammar end end h (cond-false _ _ _ (stops h) ∙ cond-false _ _ _ q)
+    pub value_missed : {f : ReadFault} → Misses k q f → comes r E A (value d e a r.pos k) ≡ refused f.refusal f.byte
+    value_missed miss = to_end ∙ misses E A miss (plain k) ran.stops (value d e a r.pos k) _ (λ c n. cond-false _ _ _ n) refl
 
-    pub quote_next : end < length m → quotes (get_or m end 0) ≡ true → from m E A (quote d e a) at ≡ from m E A (value d e a (end + 1) (get_or m end 0)) (end + 1)
-    quote_next h q = to_quote ∙ from_to m E A (quote d e a) (value d e a (end + 1) (get_or m end 0)) end h (cond-false _ _ _ (stops h) ∙ cond-true _ _ _ q)
+    pub value_met : {s : Reader} → Stands q k → Onward q s → s.pos ≡ q.pos + 1 → comes r E A (value d e a r.pos k) ≡ comes s E A (tag (valued d a (span r.pos (q.pos - r.pos))) e false)
+    value_met st on pos = to_end ∙ steps E A st on pos (value d e a r.pos k) (tag (valued d a (span r.pos (q.pos - r.pos))) e false) (cond-false _ _ _ (ap (plain k) st.is ∙ ran.stops st.before) ∙ cond-true _ _ _ (eq-eqb k k refl))
 
-  -- blanks inside a start tag
-  pub to_tag : (d : Document) (e : Span) (at end : ℕ) → end ≡ at + prefix_len blank (drop at m) → from m E A (tag d e false) at ≡ from m E A (tag d e (ltb 0 (end - at))) end
-  to_tag d e at end b = ⊎_elim none some (cases_lt at end)
+  module _ {r q : Reader} (ran : Ran textual r q) where
+    to_text : comes r E A (text d e r.pos) ≡ comes q E A (text d e r.pos)
+    to_text = stays E A ran (text d e r.pos) (λ i x y. cond-true _ _ _ y)
+
+    pub text_missed : {f : ReadFault} → Misses 60 q f → comes r E A (text d e r.pos) ≡ refused f.refusal f.byte
+    text_missed miss = to_text ∙ misses E A miss textual ran.stops (text d e r.pos) _ (λ c n. cond-false _ _ _ n) refl
+
+    pub text_met : Stands q 60 → comes r E A (text d e r.pos) ≡ comes q E A (outside (opened d e (span r.pos (q.pos - r.pos))))
+    text_met st = to_text ∙ agree E A st (text d e r.pos) (outside (opened d e (span r.pos (q.pos - r.pos)))) (sym (cond-false _ _ _ (cond-true _ _ _ (inside_more d.depth))))
+
+  -- the blanks of a start tag
+  pub to_gap : {r q : Reader} → Ran blank r q → comes r E A (tag d e false) ≡ comes q E A (tag d e (ltb 0 (q.pos - r.pos)))
+  to_gap {r} {q} ran = ⊎_elim some none (cases_lt r.pos q.pos)
     where
-      none : at < end → from m E A (tag d e false) at ≡ from m E A (tag d e (ltb 0 (end - at))) end
-      none h =
-          let lt : at < length m = (leading-some blank m at (omega arith)).0 in
-          let is : blank (get_or m at 0) ≡ true = (leading-some blank m at (omega arith)).1 in
-          from_to m E A (tag d e false) (tag d e true) at lt (cond-true _ _ _ is)
-          ∙ sym (from_to m E A (tag d e true) (tag d e true) at lt (cond-true _ _ _ is))
-          ∙ from_stays m E A (tag d e true) blank (λ i x y. cond-true _ _ _ y) at end b
-          ∙ ap (λ t. from m E A (tag d e t) end) (sym (lt-ltb 0 (end - at) (omega arith)))
-
-      some : end ≤ at → from m E A (tag d e false) at ≡ from m E A (tag d e (ltb 0 (end - at))) end
+      some : r.pos < q.pos → comes r E A (tag d e false) ≡ comes q E A (tag d e (ltb 0 (q.pos - r.pos)))
       some h =
-          let same : at ≡ end = omega arith in
-          ap (λ k. from m E A (tag d e false) k) same
-          ∙ ap (λ t. from m E A (tag d e t) end) (sym (le-ltb 0 (end - at) (omega arith)))
+          let is = leading blank r.src.now r.pos (omega (arith, ran.pos)) in
+          alike E A r (tag d e false) (tag d e true) (λ lt. cond-true _ _ _ is ∙ sym (cond-true _ _ _ is)) refl
+          ∙ stays E A ran (tag d e true) (λ i x y. cond-true _ _ _ y)
+          ∙ ap (λ t. comes q E A (tag d e t)) (sym (lt-ltb 0 (q.pos - r.pos) (omega arith)))
+
+      none : q.pos ≤ r.pos → comes r E A (tag d e false) ≡ comes q E A (tag d e (ltb 0 (q.pos - r.pos)))
+      none h =
+          let same : r.pos ≡ q.pos = omega (arith, ran.pos) in
+          ap (λ k. from r.src.now E A (tag d e false) k) same
+          ∙ ap (λ l. from l E A (tag d e false) q.pos) (sym ran.onward.src)
+          ∙ ap (λ t. comes q E A (tag d e t)) (sym (le-ltb 0 (q.pos - r.pos) (omega arith)))
 
   -- a byte of a start tag that is no blank
-  module _ (d : Document) (e : Span) (gap : Bool) (at : ℕ) where
-    pub tag_ends : length m ≤ at → from m E A (tag d e gap) at ≡ refused Grammar at
-    tag_ends h = from_end m E A (tag d e gap) at h
+  module _ (gap : Bool) {r : Reader} {b : ℕ} (st : Stands r b) (stops : Lacks blank r) where
+    no_blank : blank b ≡ false
+    no_blank = ap blank st.is ∙ stops st.before
 
-    module _ (h : at < length m) (nb : blank (get_or m at 0) ≡ false) where
-      pub tag_open : get_or m at 0 ≡ 62 → from m E A (tag d e gap) at ≡ from m E A (text d e (at + 1)) (at + 1)
-      tag_open y = from_to m E A (tag d e gap) (text d e (at + 1)) at h (cond-false _ _ _ nb ∙ cond-true _ _ _ (eq-eqb _ 62 y))
+    pub tag_open : b ≡ 62 → {q : Reader} → Onward r q → q.pos ≡ r.pos + 1 → comes r E A (tag d e gap) ≡ comes q E A (text d e q.pos)
+    tag_open y {q} on pos = steps E A st on pos (tag d e gap) (text d e q.pos) (cond-false _ _ _ no_blank ∙ cond-true _ _ _ (eq-eqb _ 62 y) ∙ ap (λ p. text d e p) (sym pos))
 
-      module _ (n : get_or m at 0 ≡ 62 → ⊥) where
-        pub tag_slash : get_or m at 0 ≡ 47 → from m E A (tag d e gap) at ≡ from m E A (word 62 [] (outside (emptied d e))) (at + 1)
-        tag_slash y =
-            from_to m E A (tag d e gap) (slash d e) at h (cond-false _ _ _ nb ∙ cond-false _ _ _ (ne_eqb _ 62 n) ∙ cond-true _ _ _ (eq-eqb _ 47 y))
-            ∙ from_same m E A (slash d e) (word 62 [] (outside (emptied d e))) (at + 1) (λ lt. refl) refl
+    module _ (n : b ≡ 62 → ⊥) where
+      pub tag_slash : b ≡ 47 → {q : Reader} → Onward r q → q.pos ≡ r.pos + 1 → comes r E A (tag d e gap) ≡ comes q E A (word 62 [] (outside (emptied d e)))
+      tag_slash y {q} on pos =
+          steps E A st on pos (tag d e gap) (slash d e) (cond-false _ _ _ no_blank ∙ cond-false _ _ _ (ne_eqb _ 62 n) ∙ cond-true _ _ _ (eq-eqb _ 47 y))
+          ∙ alike E A q (slash d e) (word 62 [] (outside (emptied d e))) (λ lt. refl) refl
 
-        module _ (k : get_or m at 0 ≡ 47 → ⊥) where
-          tag_last : step m E A (tag d e gap) at (get_or m at 0) ≡ cond (gap && begins (get_or m at 0)) (attribute d e at) (wrong Grammar at)
-          tag_last = cond-false _ _ _ nb ∙ cond-false _ _ _ (ne_eqb _ 62 n) ∙ cond-false _ _ _ (ne_eqb _ 47 k)
+      module _ (k : b ≡ 47 → ⊥) where
+        tag_last : step r.src.now E A (tag d e gap) r.pos b ≡ cond (gap && begins b) (attribute d e r.pos) (wrong Grammar r.pos)
+        tag_last = cond-false _ _ _ no_blank ∙ cond-false _ _ _ (ne_eqb _ 62 n) ∙ cond-false _ _ _ (ne_eqb _ 47 k)
 
-          pub tag_other : (gap && begins (get_or m at 0)) ≡ false → from m E A (tag d e gap) at ≡ refused Grammar at
-          tag_other f = to_wrong m E A (tag d e gap) Grammar at at h (tag_last ∙ cond-false _ _ _ f)
+        pub tag_tight : gap ≡ false → comes r E A (tag d e gap) ≡ refused Grammar r.pos
+        tag_tight f = fails E A st (tag d e gap) Grammar r.pos (tag_last ∙ cond-false _ _ _ (and_left gap (begins b) f))
 
-          pub tag_attribute : (gap && begins (get_or m at 0)) ≡ true → begins (get_or m at 0) ≡ true → from m E A (tag d e gap) at ≡ from m E A (attribute d e at) at
-          tag_attribute f y =
-              from_to m E A (tag d e gap) (attribute d e at) at h (tag_last ∙ cond-true _ _ _ f)
-              ∙ sym (from_to m E A (attribute d e at) (attribute d e at) at h (cond-true _ _ _ (goes_on (get_or m at 0) y)))
+        pub tag_other : {f : ReadFault} → Lacks begins r × (f ≡ fault Grammar r.pos) → comes r E A (tag d e gap) ≡ refused f.refusal f.byte
+        tag_other h =
+            fails E A st (tag d e gap) Grammar r.pos (tag_last ∙ cond-false _ _ _ (and_right gap (begins b) (ap begins st.is ∙ h.0 st.before)))
+            ∙ ap (λ z. refused z.refusal z.byte) (sym h.1)
 
-  -- the bytes of a value
-  module _ (d : Document) (e a : Span) (q at end : ℕ) (b : end ≡ at + prefix_len (plain q) (drop at m)) (stops : end < length m → plain q (get_or m end 0) ≡ false) where
-    to_value : from m E A (value d e a at q) at ≡ from m E A (value d e a at q) end
-    to_value = from_stays m E A (value d e a at q) (plain q) (λ i x y. cond-true _ _ _ y) at end b
-
-    pub value_ends : length m ≤ end → from m E A (value d e a at q) at ≡ refused Grammar end
-    value_ends h = to_value ∙ from_end m E A (value d e a at q) end h
-
-    pub value_done : end < length m → get_or m end 0 ≡ q → from m E A (value d e a at q) at ≡ from m E A (tag (valued d a (span at (end - at))) e false) (end + 1)
-    value_done h y = to_value ∙ from_to m E A (value d e a at q) (tag (valued d a (span at (end - at))) e false) end h (cond-false _ _ _ (stops h) ∙ cond-true _ _ _ (eq-eqb _ q y))
-
-    pub value_amp : end < length m → (get_or m end 0 ≡ q → ⊥) → get_or m end 0 ≡ 38 → from m E A (value d e a at q) at ≡ refused Ampersand end
-    value_amp h y w = to_value ∙ to_wrong m E A (value d e a at q) Ampersand end end h (cond-false _ _ _ (stops h) ∙ cond-false _ _ _ (ne_eqb _ q y) ∙ cond-true _ _ _ (eq-eqb _ 38 w))
-
-    pub value_other : end < length m → (get_or m end 0 ≡ q → ⊥) → (get_or m end 0 ≡ 38 → ⊥) → from m E A (value d e a at q) at ≡ refused Grammar end
-    value_other h y w = to_value ∙ to_wrong m E A (value d e a at q) Grammar end end h (cond-false _ _ _ (stops h) ∙ cond-false _ _ _ (ne_eqb _ q y) ∙ cond-false _ _ _ (ne_eqb _ 38 w))
-
-  -- the bytes of a text behind a start tag
-  module _ (d : Document) (e : Span) (at end : ℕ) (b : end ≡ at + prefix_len textual (drop at m)) (stops : end < length m → textual (get_or m end 0) ≡ false) where
-    to_text : from m E A (text d e at) at ≡ from m E A (text d e at) end
-    to_text = from_stays m E A (text d e at) textual (λ i x y. cond-true _ _ _ y) at end b
-
-    pub text_ends : length m ≤ end → from m E A (text d e at) at ≡ refused Grammar end
-    text_ends h = to_text ∙ from_end m E A (text d e at) end h
-
-    pub text_done : end < length m → get_or m end 0 ≡ 60 → from m E A (text d e at) at ≡ from m E A (outside (opened d e (span at (end - at)))) end
-    text_done h y =
-        let D = opened d e (span at (end - at)) in
-        to_text
-        ∙ from_to m E A (text d e at) (angle D) end h (cond-false _ _ _ (stops h) ∙ cond-true _ _ _ (eq-eqb _ 60 y))
-        ∙ sym (from_to m E A (outside D) (angle D) end h (cond-false _ _ _ (cond-true _ _ _ (inside_more d.depth) ∙ stops h) ∙ cond-true _ _ _ (eq-eqb _ 60 y)))
-
-    pub text_amp : end < length m → (get_or m end 0 ≡ 60 → ⊥) → get_or m end 0 ≡ 38 → from m E A (text d e at) at ≡ refused Ampersand end
-    text_amp h y w = to_text ∙ to_wrong m E A (text d e at) Ampersand end end h (cond-false _ _ _ (stops h) ∙ cond-false _ _ _ (ne_eqb _ 60 y) ∙ cond-true _ _ _ (eq-eqb _ 38 w))
-
-    pub text_other : end < length m → (get_or m end 0 ≡ 60 → ⊥) → (get_or m end 0 ≡ 38 → ⊥) → from m E A (text d e at) at ≡ refused Grammar end
-    text_other h y w = to_text ∙ to_wrong m E A (text d e at) Grammar end end h (cond-false _ _ _ (stops h) ∙ cond-false _ _ _ (ne_eqb _ 60 y) ∙ cond-false _ _ _ (ne_eqb _ 38 w))
+        pub tag_attribute : gap ≡ true → {c : ℕ} → Stands r c × (begins c ≡ true) → comes r E A (tag d e gap) ≡ comes r E A (attribute d e r.pos)
+        tag_attribute g h =
+            let y = stood begins st h in
+            agree E A st (tag d e gap) (attribute d e r.pos) (tag_last ∙ cond-true _ _ _ (and_from gap (begins b) g y) ∙ sym (cond-true _ _ _ (goes_on b y)))

@@ -1,7 +1,7 @@
 -- How a manifest is read: what is known after each byte, and which byte cannot follow.
 use Rattle.std.specs.Prelude.{ℕ, ◌+◌, ◌-◌, min, Bool, true, false, cond, not, ◌&&◌, ◌||◌, List, [], ◌∷◌, ◌++◌, length, drop, codes, ◌==◌, nat_le, nat_lt, slice_index_or, slice_range}
 use Rattle.std.specs.Str.{bytes_eq}
-use Rattle.tables.specs.Parts.{part}
+use Rattle.tables.specs.Parts.{part, is_of}
 use Rattle.tables.specs.Zero.{span, no_element}
 use Rattle.tables.specs.declared.manifest.Attribute.{Attribute}
 use Rattle.tables.specs.declared.manifest.Element.{Element}
@@ -121,7 +121,7 @@ dashes k b = cond (b == 45) (min 2 (k + 1)) 0
 -- whether an attribute of the element in the row e has the name n
 abbrev pub twice : List ℕ → ℕ → List ℕ → List Attribute → Bool
 twice m e n [] = false
-twice m e n (a ∷ more) = (a.element == e && bytes_eq (part m a.name) n) || twice m e n more
+twice m e n (a ∷ more) = is_of m e n a || twice m e n more
 
 -- a byte of a tag, behind the name or a value
 abbrev pub step_tag : Document → Span → Bool → ℕ → ℕ → State

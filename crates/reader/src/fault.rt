@@ -1,6 +1,7 @@
 // The refusals of reading.
 ghost use Rattle.std.specs.Prelude.{◌≡◌};
 ghost use Rattle.reader.specs.Numbers.{number};
+ghost use Rattle.reader.specs.Outcomes.{fault};
 
 // Why a manifest is not read.
 #[derive(Clone, Copy, Debug, PartialEq, Eq)]
@@ -15,6 +16,18 @@ pub enum ReadRefusal {
     AttributeTwice,
 }
 
+impl ReadRefusal {
+    // The refusal at the byte.
+    pub(crate) fn at(self, byte: usize) -> ReadFault
+        ensures { result ≡ fault self byte }
+    {
+        ReadFault {
+            refusal: self,
+            byte,
+        }
+    }
+}
+
 // A refusal and the byte of the manifest that it is told for.
 #[derive(Clone, Copy, Debug, PartialEq, Eq)]
 pub struct ReadFault {
@@ -24,6 +37,7 @@ pub struct ReadFault {
 
 impl ReadFault {
     // The number by which the refusal is known.
+    // A match and no discriminants, so that the proof sees a wrong number.
     pub fn number(&self) -> u8
         ensures { result ≡ number self.now.refusal }
     {

@@ -5,4 +5,4 @@ mod fault;
 mod lexer;
 
 pub use fault::{ReadFault, ReadRefusal};
-pub use lexer::markup::read;
+pub use lexer::markup::{LIMIT, read};

@@ -5,22 +5,7 @@ use anyhow::Context;
 use reader::read;
 use std::alloc::{AllocError, Global};
 use std::io;
-use tables::{Attribute, Element, Span, Table};
-
-const NOWHERE: Span = Span { at: 0, len: 0 };
-
-const NO_ELEMENT: Element = Element {
-    name: NOWHERE,
-    parent: 0,
-    level: 0,
-    text: NOWHERE,
-};
-
-const NO_ATTRIBUTE: Attribute = Attribute {
-    element: 0,
-    name: NOWHERE,
-    value: NOWHERE,
-};
+use tables::{Attribute, Element, ManifestRows, Row};
 
 // A line has the rows of the element table, those of the attribute table, a count and a text, with a
 // blank between them. The manifest is the text so many times. In the text %41 stands for the byte of
@@ -91,18 +76,11 @@ fn print_rows(rt: &HostRuntime, elements: &[Element], attributes: &[Attribute]) 
 }
 
 // Prints what comes of a manifest with so much room.
-fn print_reading(
-    rt: &HostRuntime,
-    manifest: &[u8],
-    elements: &mut [Element],
-    attributes: &mut [Attribute],
-) -> io::Result<()> {
-    let mut elements = Table::new(elements);
-    let mut attributes = Table::new(attributes);
-    match read(manifest, &mut elements, &mut attributes) {
+fn print_reading(rt: &HostRuntime, manifest: &[u8], rows: &mut ManifestRows) -> io::Result<()> {
+    match read(manifest, rows) {
         Ok(()) => {
             println!(rt; "accepted")?;
-            print_rows(rt, elements.rows(), attributes.rows())
+            print_rows(rt, rows.elements.rows(), rows.attributes.rows())
         }
         Err(fault) => println!(rt; "refused {} at {}", fault.number(), fault.byte),
     }
@@ -110,11 +88,8 @@ fn print_reading(
 
 // The rows that a table may use.
 fn room<R>(rows: &mut [R], count: usize) -> &mut [R] {
-    if count < rows.len() {
-        &mut rows[0..count]
-    } else {
-        rows
-    }
+    let end = count.min(rows.len());
+    &mut rows[..end]
 }
 
 // Prints what comes of the manifest of a line.
@@ -125,14 +100,10 @@ fn print_line(rt: &HostRuntime, line: &str) -> anyhow::Result<()> {
     let manifest = repeated(rt.alloc(), text, count.parse::<u32>()?)?;
     let e = e.parse::<usize>()?;
     let a = a.parse::<usize>()?;
-    let mut elements = [NO_ELEMENT; 64];
-    let mut attributes = [NO_ATTRIBUTE; 64];
-    print_reading(
-        rt,
-        manifest.as_slice(),
-        room(&mut elements, e),
-        room(&mut attributes, a),
-    )?;
+    let mut elements = [Element::zeroed(); 64];
+    let mut attributes = [Attribute::zeroed(); 64];
+    let mut rows = ManifestRows::new(room(&mut elements, e), room(&mut attributes, a));
+    print_reading(rt, manifest.as_slice(), &mut rows)?;
     Ok(())
 }
 

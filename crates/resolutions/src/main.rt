@@ -2,35 +2,16 @@
 #![tactic(auto)]
 
 use anyhow::Context;
-use output::Mark;
+use chosen::Positions;
+use output::{Mark, Output};
 use presentation::{Kind, Plan, account, lay_out};
 use reader::read;
 use resolve::resolve;
 use std::io;
 use std::io::Write;
-use tables::{Attribute, Element, Span, Table};
+use tables::{Attribute, Element, ManifestRows, Row, Table};
 use timeline::{Addressed, Run, Timeline};
-
-const NOWHERE: Span = Span { at: 0, len: 0 };
-
-const NO_ELEMENT: Element = Element {
-    name: NOWHERE,
-    parent: 0,
-    level: 0,
-    text: NOWHERE,
-};
-
-const NO_ATTRIBUTE: Attribute = Attribute {
-    element: 0,
-    name: NOWHERE,
-    value: NOWHERE,
-};
-
-const NO_RUN: Run = Run {
-    start: 0,
-    length: 0,
-    count: 0,
-};
+use tree::Tree;
 
 // Prints the values of the plan, and the runs where they were written.
 fn print_plan(rt: &HostRuntime, plan: &Plan, runs: &[Run]) -> io::Result<()> {
@@ -54,11 +35,12 @@ fn print_segment<T: Addressed>(rt: &HostRuntime, timeline: &T, place: u32) -> io
     print!(rt; " {}:{}:{}:", segment.number, segment.start, segment.length)?;
     let mut bytes = [0u8; 8_192];
     let mut mark = Mark { used: 0 };
-    let answer = timeline.write_address(place, &mut bytes, &mut mark);
-    if answer.is_ok() && mark.used <= bytes.len() {
-        rt.stdout().write_all(&bytes[0..mark.used])?;
-    }
-    Ok(())
+    let _ = timeline.write_address(place, &mut bytes, &mut mark);
+    let out = Output {
+        bytes: &mut bytes,
+        mark,
+    };
+    rt.stdout().write_all(out.written())
 }
 
 // Prints the count of the segments, and the first and the last of them.
@@ -88,27 +70,17 @@ fn print_accepted<'a>(rt: &HostRuntime, plan: Plan<'a>, runs: &'a [Run]) -> io::
 fn print_resolution(
     rt: &HostRuntime,
     manifest: &[u8],
-    period: usize,
-    representation: usize,
+    at: Positions,
     runs: &mut [Run],
 ) -> io::Result<()> {
-    let mut element_rows = [NO_ELEMENT; 64];
-    let mut attribute_rows = [NO_ATTRIBUTE; 64];
-    let mut elements = Table::new(&mut element_rows);
-    let mut attributes = Table::new(&mut attribute_rows);
+    let mut element_rows = [Element::zeroed(); 64];
+    let mut attribute_rows = [Attribute::zeroed(); 64];
+    let mut rows = ManifestRows::new(&mut element_rows, &mut attribute_rows);
     let mut runs = Table::new(runs);
-    if let Err(fault) = read(manifest, &mut elements, &mut attributes) {
+    if let Err(fault) = read(manifest, &mut rows) {
         return println!(rt; "refused {}", fault.number());
     }
-    let (elements, attributes) = (elements.rows(), attributes.rows());
-    match resolve(
-        manifest,
-        elements,
-        attributes,
-        period,
-        representation,
-        &mut runs,
-    ) {
+    match resolve(&Tree::of(manifest, &rows), at, &mut runs) {
         Ok(plan) => print_accepted(rt, plan, runs.rows()),
         Err(fault) => println!(rt; "refused {}", fault.number()),
     }
@@ -120,18 +92,14 @@ fn print_line(rt: &HostRuntime, line: &str) -> anyhow::Result<()> {
     let (period, rest) = line.split_once(' ').context("no Period")?;
     let (representation, rest) = rest.split_once(' ').context("no Representation")?;
     let (rows, manifest) = rest.split_once(' ').context("no room for runs")?;
-    let period = period.parse::<usize>()?;
-    let representation = representation.parse::<usize>()?;
+    let at = Positions {
+        period: period.parse::<usize>()?,
+        representation: representation.parse::<usize>()?,
+    };
     let rows = rows.parse::<usize>()?;
-    let mut runs = [NO_RUN; 16];
+    let mut runs = [Run::zeroed(); 16];
     let room = rows.min(runs.len());
-    print_resolution(
-        rt,
-        manifest.as_bytes(),
-        period,
-        representation,
-        &mut runs[0..room],
-    )?;
+    print_resolution(rt, manifest.as_bytes(), at, &mut runs[..room])?;
     Ok(())
 }
 

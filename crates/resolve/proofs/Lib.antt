@@ -1,6 +1,5 @@
--- The lemmas: on tests one behind the other, on the values in their order, on the first refusal that applies, on
+-- The lemmas: on the values in their order, on the first refusal that applies, on
 -- addresses, on sums, and on what comes of it all.
-pub mod Tests
 pub mod Order
 pub mod Firsts
 pub mod Addresses

@@ -1,100 +1,84 @@
--- The values in the order in which they are read.
-use Rattle.std.proofs.Common.{◌≡◌, ℕ, ◌+◌, ◌≤◌, Bool, true, false, ◌||◌, List, take, IfSome, Some, None, Option, unwrap_or, ap, ◌∙◌, subst}
+-- The values in the order in which they are read: where one cannot be read, not all can.
+use Rattle.std.proofs.Common.{◌≡◌, ℕ, ◌+◌, Bool, true, false, ◌||◌, List, [], ◌∷◌, ◌++◌, take, Result, ◌∙◌, arith}
+use Rattle.std.proofs.lemmas.Bool.{or_left, or_right}
+use Rattle.std.proofs.lemmas.Result.{MatchResult-from_err}
+use Rattle.std.specs.Result.{IsErr}
 use Rattle.chosen.specs.Choosing.{timeline_in}
 use Rattle.chosen.specs.declared.Chosen.{Chosen}
-use Rattle.periods.specs.Starts.{periods, asked_by as periodsAsked}
-use Rattle.tables.specs.declared.manifest.Attribute.{Attribute}
-use Rattle.tables.specs.declared.manifest.Element.{Element}
-use Rattle.values.specs.Given.{Kind, unread, some_unread, whole, duration}
+use Rattle.periods.specs.Starts.{periods, asked_by}
+use Rattle.tree.specs.Trees.{on}
+use Rattle.tree.specs.declared.Tree.{Tree}
 use Rattle.values.proofs.Presence.{unread_append}
+use Rattle.values.specs.Given.{Asked, unread, some_unread, whole, duration, ReadsAll}
+use Rattle.values.specs.declared.ValueFault.{ValueFault}
 use Rattle.resolve.specs.Asking.{if_there, must_be_there, timescale_text, start_number_text, bandwidth_text, duration_text, offset_text, presentation_text, timeline_asked, asked}
 use Rattle.resolve.specs.declared.numbers.Numbers.{Numbers}
-use Rattle.resolve.proofs.Tests.{or_here, or_on}
 
--- what holds of a text holds of the same text
-pub at_text : (kind : Kind) (b : Bool) (u t : Option (List ℕ)) → u ≡ t → unread (if_there kind u) ≡ b → unread (if_there kind t) ≡ b
-at_text kind b u t e h = subst (λ x. unread (if_there kind x) ≡ b) e h
+-- the first of some cannot be read
+first_unread : (a : Asked) (as' : List Asked) → some_unread (a ∷ []) ≡ true → some_unread (a ∷ as') ≡ true
+first_unread a as' h = or_left (unread a) _ (alone (unread a) h)
+  where
+    alone : (b : Bool) → (b || false) ≡ true → b ≡ true
+    alone b h = grind arith
 
-pub at_needed : (kind : Kind) (b : Bool) (u t : Option (List ℕ)) → u ≡ t → unread (must_be_there kind u) ≡ b → unread (must_be_there kind t) ≡ b
-at_needed kind b u t e h = subst (λ x. unread (must_be_there kind x) ≡ b) e h
+module _ (t : Tree) (c : Chosen) (i : ℕ) where
+  -- what is read, in its order
+  abbrev timescale : Asked
+  timescale = if_there (whole 1 10000000) (on timescale_text t c)
 
--- eight tests one behind the other
-module _ (a b c d e f g h : Bool) where
-  abbrev pub eight : Bool
-  eight = a || (b || (c || (d || (e || (f || (g || h))))))
+  abbrev start_number : Asked
+  start_number = if_there (whole 0 4294967295) (on start_number_text t c)
 
-module _ (a b c d e f g h : Bool) (na : a ≡ false) (nb : b ≡ false) (nc : c ≡ false) where
-  pub at_fourth : d ≡ true → eight a b c d e f g h ≡ true
-  at_fourth t = or_on a _ na ∙ or_on b _ nb ∙ or_on c _ nc ∙ or_here d _ t
+  abbrev bandwidth : Asked
+  bandwidth = if_there (whole 0 4294967295) (on bandwidth_text t c)
 
-  module _ (nd : d ≡ false) where
-    from_fifth : eight a b c d e f g h ≡ (e || (f || (g || h)))
-    from_fifth = or_on a _ na ∙ or_on b _ nb ∙ or_on c _ nc ∙ or_on d _ nd
+  abbrev upto : List Asked
+  upto = on asked_by t (take (i + 2) (on periods t))
 
-    pub at_fifth : e ≡ true → eight a b c d e f g h ≡ true
-    at_fifth t = from_fifth ∙ or_here e _ t
+  abbrev presentation : Asked
+  presentation = must_be_there duration (on presentation_text t c)
 
-    pub at_sixth : e ≡ false → f ≡ true → eight a b c d e f g h ≡ true
-    at_sixth ne t = from_fifth ∙ or_on e _ ne ∙ or_here f _ t
+  abbrev even : Asked
+  even = if_there (whole 1 4294967295) (on duration_text t c)
 
-    pub at_seventh : e ≡ false → f ≡ false → g ≡ true → eight a b c d e f g h ≡ true
-    at_seventh ne nf t = from_fifth ∙ or_on e _ ne ∙ or_on f _ nf ∙ or_here g _ t
+  abbrev offset : Asked
+  offset = if_there (whole 0 9007199254740992) (on offset_text t c)
 
-    pub from_eighth : e ≡ false → f ≡ false → g ≡ false → eight a b c d e f g h ≡ h
-    from_eighth ne nf ng = from_fifth ∙ or_on e _ ne ∙ or_on f _ nf ∙ or_on g _ ng
+  abbrev rest : List Asked
+  rest = on timeline_asked t (on timeline_in t c)
 
--- whether one of the values cannot be read, value by value
-module _ (m : List ℕ) (es : List Element) (xs : List Attribute) (c : Chosen) (i : ℕ) where
-  abbrev A : Bool
-  A = unread (if_there (whole 1 10000000) (timescale_text m es xs c))
+  abbrev pub last : List Asked
+  last = presentation ∷ even ∷ offset ∷ rest
 
-  abbrev B : Bool
-  B = unread (if_there (whole 0 4294967295) (start_number_text m es xs c))
+  -- one of them cannot be read
+  bandwidth_unread : some_unread (bandwidth ∷ []) ≡ true → some_unread (on asked t c i) ≡ true
+  bandwidth_unread h = or_right (unread timescale) _ (or_right (unread start_number) _ (first_unread bandwidth (upto ++ last) h))
 
-  abbrev C : Bool
-  C = unread (if_there (whole 0 4294967295) (bandwidth_text m es xs c))
+  behind : some_unread (upto ++ last) ≡ true → some_unread (on asked t c i) ≡ true
+  behind h = or_right (unread timescale) _ (or_right (unread start_number) _ (or_right (unread bandwidth) _ h))
 
-  abbrev D : Bool
-  D = some_unread (periodsAsked m es xs (take (i + 2) (periods m es xs)))
+  period_unread : some_unread upto ≡ true → some_unread (on asked t c i) ≡ true
+  period_unread h = behind (unread_append upto last ∙ or_left (some_unread upto) _ h)
 
-  abbrev E : Bool
-  E = unread (must_be_there duration (presentation_text m es xs c))
+  last_unread : some_unread last ≡ true → some_unread (on asked t c i) ≡ true
+  last_unread h = behind (unread_append upto last ∙ or_right (some_unread upto) _ h)
 
-  abbrev F : Bool
-  F = unread (if_there (whole 1 4294967295) (duration_text m es xs c))
+  pub presentation_unread : some_unread (presentation ∷ []) ≡ true → some_unread last ≡ true
+  presentation_unread h = first_unread presentation (even ∷ offset ∷ rest) h
 
-  abbrev G : Bool
-  G = unread (if_there (whole 0 9007199254740992) (offset_text m es xs c))
+  pub offset_unread : some_unread (offset ∷ []) ≡ true → some_unread last ≡ true
+  offset_unread h = or_right (unread presentation) _ (or_right (unread even) _ (first_unread offset rest h))
 
-  abbrev K : Bool
-  K = some_unread (timeline_asked m es xs (timeline_in m es xs c))
+  -- and so the reading of all is refused
+  module _ (answer : Result Numbers ValueFault) (refused : IsErr answer) where
+    refuses : some_unread (on asked t c i) ≡ true → ReadsAll (on asked t c i) answer
+    refuses h = MatchResult-from_err answer _ _ refused (λ _. h)
 
-  spread : some_unread (asked m es xs c i) ≡ eight A B C D E F G K
-  spread = ap (λ b. A || (B || (C || b))) (unread_append (periodsAsked m es xs (take (i + 2) (periods m es xs))) _)
+    pub at_bandwidth : some_unread (bandwidth ∷ []) ≡ true → ReadsAll (on asked t c i) answer
+    at_bandwidth h = refuses (bandwidth_unread h)
 
-  module _ (a : A ≡ false) (b : B ≡ false) (k : C ≡ false) where
-    pub period_unread : D ≡ true → some_unread (asked m es xs c i) ≡ true
-    period_unread t = spread ∙ at_fourth A B C D E F G K a b k t
+    pub at_periods : some_unread upto ≡ true → ReadsAll (on asked t c i) answer
+    at_periods h = refuses (period_unread h)
 
-    module _ (d : D ≡ false) where
-      pub presentation_unread : E ≡ true → some_unread (asked m es xs c i) ≡ true
-      presentation_unread t = spread ∙ at_fifth A B C D E F G K a b k d t
-
-      pub duration_unread : E ≡ false → F ≡ true → some_unread (asked m es xs c i) ≡ true
-      duration_unread e t = spread ∙ at_sixth A B C D E F G K a b k d e t
-
-      pub offset_unread : E ≡ false → F ≡ false → G ≡ true → some_unread (asked m es xs c i) ≡ true
-      offset_unread e f t = spread ∙ at_seventh A B C D E F G K a b k d e f t
-
-      pub all_but_timeline : E ≡ false → F ≡ false → G ≡ false → some_unread (asked m es xs c i) ≡ K
-      all_but_timeline e f g = spread ∙ from_eighth A B C D E F G K a b k d e f g
-
--- a number in its range, or its default, is at most the highest
-pub most_or : (o : Option ℕ) (d low high : ℕ) → IfSome o (λ n. (low ≤ n) × (n ≤ high)) → d ≤ high → unwrap_or o d ≤ high
-most_or None d low high h l = l
-most_or (Some n) d low high h l = h.1
-
--- numbers that are the same one by one
-pub same_numbers : (t t' f f' b b' : ℕ) (d d' : Option ℕ) (o o' : ℕ) → t ≡ t' → f ≡ f' → b ≡ b' → d ≡ d' → o ≡ o' →
-    ◌≡◌ {A = Numbers} record { timescale = t; first = f; bandwidth = b; duration = d; offset = o } record { timescale = t'; first = f'; bandwidth = b'; duration = d'; offset = o' }
-same_numbers t t' f f' b b' d d' o o' p q r s u = cc
+    pub at_last : some_unread last ≡ true → ReadsAll (on asked t c i) answer
+    at_last h = refuses (last_unread h)

@@ -3,7 +3,7 @@ use Rattle.std.specs.Prelude.{ℕ, ◌+◌, ◌≤◌, true, false, List, [], �
 use Rattle.std.specs.Option.{unwrap_or}
 use Rattle.chosen.specs.Choosing.{templated, timeline_in}
 use Rattle.chosen.specs.declared.Chosen.{Chosen}
-use Rattle.expand.specs.Stating.{rows_of, asked_by as statedAsked}
+use Rattle.expand.specs.Stating.{asked_in}
 use Rattle.periods.specs.Starts.{periods, asked_by as periodsAsked}
 use Rattle.tables.specs.declared.manifest.Attribute.{Attribute}
 use Rattle.tables.specs.declared.manifest.Element.{Element}
@@ -11,6 +11,7 @@ use Rattle.tree.specs.Questions.{value_of}
 use Rattle.values.specs.Given.{present, Asked, Kind, whole, duration}
 use Rattle.values.specs.Whole.{whole_in}
 use Rattle.resolve.specs.declared.numbers.Numbers.{Numbers}
+use Rattle.resolve.specs.declared.prepared.Prepared.{Prepared}
 
 -- a value that is read if it is there, and one that must be
 abbrev pub if_there : Kind → Option (List ℕ) → Asked
@@ -22,7 +23,7 @@ must_be_there kind text = record { kind = kind; text = text; needed = true }
 -- what is read of the S elements, if there is a SegmentTimeline
 abbrev pub timeline_asked : List ℕ → List Element → List Attribute → Option ℕ → List Asked
 timeline_asked m es xs None = []
-timeline_asked m es xs (Some timeline) = statedAsked m es xs (rows_of m es xs timeline)
+timeline_asked m es xs (Some timeline) = asked_in m es xs timeline
 
 module _ (m : List ℕ) (es : List Element) (xs : List Attribute) (c : Chosen) where
   -- the texts of the values
@@ -73,3 +74,12 @@ pub record Bounded (n : Numbers) : Type 0 where
   pub bandwidth : n.bandwidth ≤ 4294967295
   pub duration : IfSome n.duration (λ d. (1 ≤ d) × (d ≤ 4294967295))
   pub offset : n.offset ≤ 9007199254740992
+
+-- the length in ticks of the longest Period, at the finest timescale
+abbrev pub longest : ℕ
+longest = 1000000000000000
+
+-- numbers in their ranges, and a Period that is not too long
+pub record Measured (p : Prepared) : Type 0 where
+  pub numbers : Bounded p.numbers
+  pub period : p.period ≤ longest

@@ -1,10 +1,10 @@
 -- What comes of resolving rows: the first refusal that applies, or the values and the runs.
-use Rattle.std.specs.Prelude.{◌≡◌, ℕ, ◌+◌, Bool, true, false, cond, not, ◌&&◌, ◌||◌, List, [], ◌∷◌, ◌++◌, length, is_some, Some, None, Ok, Err, codes, Option, Result, nat_lt}
+use Rattle.std.specs.Prelude.{◌≡◌, ℕ, ◌+◌, Bool, true, false, cond, not, ◌&&◌, ◌||◌, List, [], ◌∷◌, ◌++◌, length, is_some, Some, None, Ok, Err, codes, Option, Result, MatchResult, nat_lt}
 use Rattle.std.specs.Option.{unwrap_or}
 use Rattle.std.specs.List.{AllByRecursion}
 use Rattle.chosen.specs.Choosing.{is_static, chosen, templated, timeline_in, base_of}
 use Rattle.chosen.specs.declared.Chosen.{Chosen}
-use Rattle.expand.specs.Expanding.{some, misplaced, runs_of, too_many}
+use Rattle.expand.specs.Expanding.{some, misplaced, runs_of}
 use Rattle.expand.specs.Stating.{stated}
 use Rattle.expand.specs.declared.fault.RunFault.TheVariants.{Misplaced, RunsFull, TooMany}
 use Rattle.expand.specs.declared.stated.Stated.{Stated}
@@ -19,6 +19,7 @@ use Rattle.tables.specs.declared.manifest.Element.{Element}
 use Rattle.template.specs.Reading.{stands}
 use Rattle.template.specs.declared.Identifier.TheVariants.{Time}
 use Rattle.timeline.specs.Evenly.{ceiling}
+use Rattle.timeline.specs.Limits.{too_many}
 use Rattle.timeline.specs.Runs.{many}
 use Rattle.timeline.specs.declared.run.Run.{Run}
 use Rattle.tree.specs.Questions.{value_of}
@@ -37,6 +38,10 @@ Condition = Bool × ResolveFault
 abbrev pub first_of : List Condition → Option ResolveFault
 first_of [] = None
 first_of (c ∷ cs) = cond c.0 (Some c.1) (first_of cs)
+
+-- the answer is refused by the first condition that holds, and else is none
+abbrev pub Judged : {X : Type 0} → List Condition → Result X ResolveFault → Type 0
+Judged cs answer = MatchResult answer (λ _. first_of cs ≡ None) (λ e. first_of cs ≡ Some e)
 
 -- e is the refusal of a condition that holds, behind conditions that do not; there is none only where no condition holds
 abbrev pub Unmet : Condition → Type 0

@@ -4,6 +4,7 @@ use Rattle.std.specs.Option.{option_map}
 use Rattle.address.specs.Expansion.{expansion}
 use Rattle.address.specs.Joining.{joined}
 use Rattle.address.specs.declared.Parts.{Parts}
+use Rattle.presentation.specs.Lists.{bottom_of}
 use Rattle.presentation.specs.Sums.{lengths}
 use Rattle.presentation.specs.declared.plan.Kind.{Kind}
 use Rattle.presentation.specs.declared.plan.Kind.TheVariants.{Written, Even}
@@ -75,6 +76,10 @@ defined_by (Even duration) first period runs = evenly first duration (ceiling pe
 
 abbrev pub bottom_by : Values → List Run → List Segment
 bottom_by v runs = defined_by v.kind v.first v.period runs
+
+-- the plan with its runs has the whole bottom timeline
+abbrev pub Whole : Plan → List Run → Type 0
+Whole p runs = bottom_of p runs ≡ bottom_by (values_of p) runs
 
 -- the manifest's timeline: a cut at the Period's length over a shift by the offset over the bottom timeline
 abbrev pub timeline_by : Values → List Run → List Segment

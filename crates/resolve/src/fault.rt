@@ -6,7 +6,7 @@ ghost use Rattle.resolve.specs.declared.fault.ResolveFault.TheVariants.{Unreadab
 use expand::RunFault;
 use values::ValueFault;
 
-#[derive(Clone, Copy)]
+#[derive(Clone, Copy, Debug, PartialEq, Eq)]
 pub enum ResolveFault {
     // A conformance rule is broken.
     RuleBroken,
@@ -26,6 +26,7 @@ pub enum ResolveFault {
     NoAddress,
 }
 
+// The clauses name the refusal that a `?` makes, so both are written out.
 impl From<ValueFault> for ResolveFault {
     ghost from_gives = { λ _ r. r ≡ Unreadable };
 

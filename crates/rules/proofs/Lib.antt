@@ -1,4 +1,1 @@
-mod Ands
 pub mod Made
-mod Pushes
-mod Worked

@@ -115,16 +115,12 @@ module _ (m : List ℕ) (es : List Element) (attrs : List Attribute) where
   pub below_listed : (k : ℕ) (held more : List Finding) → held ≡ findings_below m es attrs k → more ≡ held ++ failing (broken m es attrs k) k rules → more ≡ findings_below m es attrs (k + 1)
   below_listed k held more h e = e ∙ ap (λ l. l ++ failing (broken m es attrs k) k rules) h ∙ sym (below_more k)
 
-  below_longer : (k n : ℕ) → k < n → length (findings_below m es attrs k) ≤ length (findings_below m es attrs n)
-  below_longer k zero h = absurd (omega arith)
-  below_longer k (suc n) h =
-      let long = length-append (findings_below m es attrs n) (failing (broken m es attrs n) n rules) in
-      elim (cases_eq k n) [ inl e ↦ rw e (omega arith) | inr d ↦ omega (arith, below_longer k n (omega (arith, d))) ]
-
   -- the findings at fewer rows are not more
   pub below_grows : (k n : ℕ) → k ≤ n → length (findings_below m es attrs k) ≤ length (findings_below m es attrs n)
-  below_grows k n h =
-      elim (cases_eq k n) [ inl e ↦ rw e (omega arith) | inr d ↦ below_longer k n (omega (arith, d)) ]
+  below_grows k zero h = let e : k ≡ 0 = omega arith in rw e (omega arith)
+  below_grows k (suc n) h =
+      let long = length-append (findings_below m es attrs n) (failing (broken m es attrs n) n rules) in
+      elim (cases_eq k (suc n)) [ inl e ↦ rw e (omega arith) | inr d ↦ omega (arith, below_grows k n (omega (arith, d))) ]
 
   abbrev Below : ℕ → Finding → Type 0
   Below n x = (f : Rule) × (e : ℕ) × (e < n) × (broken m es attrs e f ≡ true) × (x ≡ finding f e)

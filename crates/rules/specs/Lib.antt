@@ -2,4 +2,3 @@ pub mod Broken
 pub mod Faults
 pub mod Findings
 pub mod Laws
-pub mod Trees

@@ -1,17 +1,20 @@
 // The walk over the elements that lists what breaks a rule.
-ghost use Rattle.std.specs.Prelude.{◌≡◌, ℕ, ◌<◌, ◌≤◌, [], ◌++◌, length, MatchResult, OnOk};
-ghost use Rattle.tables.specs.Rows.{held, capacity, Clean};
+ghost use Rattle.std.specs.Prelude.{◌≡◌, ◌<◌, ◌≤◌, ◌++◌, length, MatchResult, OnOk};
+ghost use Rattle.tables.specs.Leaving.{Filled, Kept, left_after};
+ghost use Rattle.tables.specs.Rows.{held, capacity};
+ghost use Rattle.tree.specs.Trees.{on};
+ghost use Rattle.rules.specs.Broken.{broken};
 ghost use Rattle.rules.specs.Findings.{findings, failing, no_finding};
-ghost use Rattle.rules.specs.Laws.{Law};
-ghost use Rattle.rules.specs.Trees.{broken_at};
+ghost use Rattle.rules.specs.Laws.{LawOn};
 ghost use Rattle.rules.specs.declared.rule.CheckFault.TheVariants.{FindingsFull};
 
 use crate::element::is_broken;
 use crate::rule::{CheckFault, Finding, Rule};
-use tables::{Attribute, Element, Full, Table};
+use tables::{Full, Table};
 use tree::Tree;
 
-// The rules in the order of their numbers.
+// The rules in the order of their numbers. An enum does not list its variants, so they stand here
+// once more.
 const RULES: [Rule; 9] = [
     Rule::DynamicUnanchored,
     Rule::StaticTimeShift,
@@ -26,33 +29,18 @@ const RULES: [Rule; 9] = [
 
 // Lists in the table, in place of what it held, each rule that is broken at an element, by element
 // and then by rule. Where they do not all fit, the table is left empty.
-pub fn check<'a>(
-    manifest: &'a [u8],
-    elements: &'a [Element],
-    attributes: &'a [Attribute],
-    table: &mut Table<Finding>,
-) -> Result<(), CheckFault>
+pub fn check(tree: &Tree, table: &mut Table<Finding>) -> Result<(), CheckFault>
     ensures answer { MatchResult result
-        (λ _. (length (findings manifest.now elements.now attributes.now) ≤ capacity table.old) × (held table.new ≡ findings manifest.now elements.now attributes.now))
-        (λ fault. (fault ≡ FindingsFull) × (capacity table.old < length (findings manifest.now elements.now attributes.now)) × (held table.new ≡ [])) }
-    ensures law { OnOk result (Law manifest.now elements.now attributes.now (held table.new)) }
-    ensures capacity { capacity table.new ≡ capacity table.old }
-    ensures clean { Clean no_finding table.new }
-    ensures lent { table.new.rows.ghost_name ≡ table.old.rows.ghost_name }
+        (λ _. length (on findings tree.now) ≤ capacity table.old)
+        (λ fault. (fault ≡ FindingsFull) × (capacity table.old < length (on findings tree.now))) }
+    ensures law { OnOk result (LawOn tree.now (held table.new)) }
+    ensures left { Filled no_finding table.old (left_after result (on findings tree.now)) table.new }
 {
-    let tree = Tree {
-        manifest,
-        elements,
-        attributes,
-    };
     table.clear();
-    'rows: for row in 0..elements.len() {
-        match list_at(&tree, row, &RULES, table) {
-            Ok(()) => {}
-            Err(Full) => {
-                table.clear();
-                return Err(CheckFault::FindingsFull);
-            }
+    'rows: for row in 0..tree.elements.len() {
+        if list_at(tree, row, &RULES, table).is_err() {
+            table.clear();
+            return Err(CheckFault::FindingsFull);
         }
     }
     Ok(())
@@ -62,11 +50,9 @@ pub fn check<'a>(
 // them.
 fn list_at(tree: &Tree, row: usize, rules: &[Rule], table: &mut Table<Finding>) -> Result<(), Full>
     ensures answer { MatchResult result
-        (λ _. held table.new ≡ held table.old ++ failing (broken_at tree.now row) row rules.now)
-        (λ _. capacity table.old < length (held table.old ++ failing (broken_at tree.now row) row rules.now)) }
-    ensures capacity { capacity table.new ≡ capacity table.old }
-    ensures clean { Clean no_finding table.old → Clean no_finding table.new }
-    ensures lent { table.new.rows.ghost_name ≡ table.old.rows.ghost_name }
+        (λ _. held table.new ≡ held table.old ++ failing (on broken tree.now row) row rules.now)
+        (λ _. capacity table.old < length (held table.old ++ failing (on broken tree.now row) row rules.now)) }
+    ensures kept { Kept table.old table.new }
 {
     'rules: for rule in rules {
         if is_broken(tree, row, *rule) {

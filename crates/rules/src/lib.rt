@@ -8,4 +8,5 @@ mod rule;
 mod tests;
 
 pub use checker::check;
+pub use element::is_typed;
 pub use rule::{CheckFault, Finding, Rule};

@@ -31,6 +31,7 @@ pub enum Rule {
 
 impl Rule {
     // The number after the F by which the rule is known.
+    // A match and no discriminants, so that the proof sees a wrong number.
     pub fn number(self) -> u8
         ensures { result ≡ number self }
     {
@@ -76,6 +77,7 @@ pub enum CheckFault {
 
 impl CheckFault {
     // The number by which the refusal is known.
+    // A match and no discriminants, so that the proof sees a wrong number.
     pub fn number(self) -> u8
         ensures { result ≡ fault_number self }
     {

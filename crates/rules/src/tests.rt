@@ -1,7 +1,7 @@
 // The checker on a small manifest.
-use crate::{Finding, Rule, check};
-use std::test::Fail;
+use crate::{CheckFault, Finding, Rule, check};
 use tables::{Attribute, Element, Row, Span, Table};
+use tree::Tree;
 
 const MANIFEST: &[u8] = b"<MPD type=\"dynamic\"><Period/></MPD>";
 
@@ -26,50 +26,44 @@ const ATTRIBUTES: [Attribute; 1] = [Attribute {
     value: Span { at: 11, len: 7 },
 }];
 
-#[test]
-fn a_dynamic_mpd_that_says_nothing_else(rt: HostRuntime) -> Result<(), Fail> {
-    let mut rows = [Finding::zeroed(); 4];
-    let mut table = Table::new(&mut rows);
-    check(MANIFEST, &ELEMENTS, &ATTRIBUTES, &mut table)?;
-    match table.rows() {
-        [a, b, c] => {
-            assert_eq!(rt;
-                *a,
-                Finding {
-                    rule: Some(Rule::DynamicUnanchored),
-                    element: 0,
-                }
-            );
-            assert_eq!(rt;
-                *b,
-                Finding {
-                    rule: Some(Rule::NoDurationNorUpdate),
-                    element: 0,
-                }
-            );
-            assert_eq!(rt;
-                *c,
-                Finding {
-                    rule: Some(Rule::NoMaxSegmentDuration),
-                    element: 0,
-                }
-            );
-            Ok(())
-        }
-        _ => Err(Fail::new("not three findings")),
+const FOUND: &[Finding] = &[
+    Finding {
+        rule: Some(Rule::DynamicUnanchored),
+        element: 0,
+    },
+    Finding {
+        rule: Some(Rule::NoDurationNorUpdate),
+        element: 0,
+    },
+    Finding {
+        rule: Some(Rule::NoMaxSegmentDuration),
+        element: 0,
+    },
+];
+
+fn tree() -> Tree<'static, 'static> {
+    Tree {
+        manifest: MANIFEST,
+        elements: &ELEMENTS,
+        attributes: &ATTRIBUTES,
     }
 }
 
 #[test]
-fn findings_that_do_not_fit(rt: HostRuntime) -> Result<(), Fail> {
+fn a_dynamic_mpd_that_says_nothing_else(rt: HostRuntime) {
+    let mut rows = [Finding::zeroed(); 4];
+    let mut table = Table::new(&mut rows);
+    assert_eq!(rt; check(&tree(), &mut table), Ok(()));
+    assert_eq!(rt; table.rows(), FOUND);
+}
+
+#[test]
+fn findings_that_do_not_fit(rt: HostRuntime) {
     let mut rows = [Finding::zeroed(); 2];
     let mut table = Table::new(&mut rows);
-    match check(MANIFEST, &ELEMENTS, &ATTRIBUTES, &mut table) {
-        Ok(()) => Err(Fail::new("three findings in two rows")),
-        Err(fault) => {
-            assert_eq!(rt; fault.number(), 18);
-            assert_eq!(rt; table.len(), 0);
-            Ok(())
-        }
-    }
+    assert_eq!(rt;
+        check(&tree(), &mut table).map_err(CheckFault::number),
+        Err(18)
+    );
+    assert_eq!(rt; table.len(), 0);
 }

@@ -13,3 +13,7 @@ capacity t = length t.rows.now
 -- every row that is not in use is z
 abbrev pub Clean : {X : Type 0} → X → Table X → Type 0
 Clean z t = drop t.used t.rows.now ≡ replicate (length t.rows.now - t.used) z
+
+-- no row is left to use
+abbrev pub IsFull : {X : Type 0} → Table X → Type 0
+IsFull t = length (held t) ≡ capacity t

@@ -6,7 +6,7 @@ mod row;
 mod span;
 mod store;
 
-pub use manifest::{Attribute, Element};
+pub use manifest::{Attribute, Element, ManifestRows};
 pub use row::{Full, Row};
 pub use span::{Span, same};
 pub use store::Table;

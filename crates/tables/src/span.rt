@@ -4,7 +4,7 @@ ghost use Rattle.std.specs.Str.{bytes_eq};
 ghost use Rattle.tables.specs.Parts.{part};
 
 // A part of the manifest: the byte at which it begins, and how many bytes it has.
-#[derive(Clone, Copy, Debug, PartialEq, Eq)]
+#[derive(Clone, Copy, Debug, Default, PartialEq, Eq)]
 pub struct Span {
     pub at: usize,
     pub len: usize,
@@ -15,18 +15,12 @@ impl Span {
     pub fn part<'a>(&self, bytes: &'a [u8]) -> &'a [u8]
         ensures { result.now ≡ part bytes.now self.now }
     {
-        let at = self.at;
-        if at > bytes.len() {
-            return &[];
-        }
-        if self.len > bytes.len() - at {
-            return &[];
-        }
-        &bytes[at..at + self.len]
+        let rest = bytes.get(self.at..);
+        rest.and_then(|rest| rest.get(..self.len)).unwrap_or(&[])
     }
 }
 
-// Whether two byte strings are the same, byte by byte.
+// Whether two byte strings are the same, byte by byte. Every name is held against a byte string by this one call.
 pub fn same(a: &[u8], b: &[u8]) -> bool
     ensures { result ≡ bytes_eq a.now b.now }
 {

@@ -3,7 +3,8 @@ ghost use Rattle.std.specs.Prelude.{◌≤◌, length};
 
 mod calls;
 
-// Takes rows in order. The rows in use are the first ones of the caller's slice.
+// Takes rows in order. The rows in use are the first ones of the caller's slice: there is no heap, so a slice with a
+// count, and no vector.
 #[derive(Drop)]
 pub struct Table<'a, R> {
     rows: &'a mut [R],

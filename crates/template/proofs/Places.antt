@@ -1,13 +1,11 @@
 -- What an answer says of a place of a template.
-use Rattle.std.proofs.Common.{◌≡◌, ℕ, ◌+◌, ◌-◌, ◌<◌, ◌≤◌, List, [], ◌∷◌, ◌++◌, length, take, drop, Some, None, Option, sym, ap, ◌∙◌, arith}
+use Rattle.std.proofs.Common.{◌≡◌, ℕ, ◌+◌, ◌-◌, ◌<◌, ◌≤◌, List, [], ◌∷◌, ◌++◌, length, take, drop, Some, None, Ok, Err, Option, sym, ap, ◌∙◌, arith}
 use Rattle.std.proofs.lemmas.List.Prefix.{front_rest, front_fits}
 use Rattle.std.proofs.lemmas.List.{drop-drop, length-drop, at_drop_all, take_rest}
 use Rattle.template.specs.declared.Piece.{Piece}
 use Rattle.template.specs.declared.Piece.TheVariants.{Byte, Dollar, Value}
-use Rattle.template.specs.declared.Next.{Next}
-use Rattle.template.specs.declared.Next.TheVariants.{Piece as PieceTo, End, Broken}
 use Rattle.template.specs.Pieces.{text_of}
-use Rattle.template.specs.Reading.{measured, next, ending, next_at}
+use Rattle.template.specs.Reading.{measured, next, AtPlace, a_break, ending, next_at}
 use Rattle.template.specs.Laws.{Told, Only}
 use Rattle.template.proofs.Measured.{no_some, measured_some, measured_none}
 use Rattle.template.proofs.Sound.{next_front}
@@ -19,11 +17,11 @@ text_some Dollar = omega arith
 text_some (Value i tag) = omega arith
 
 -- what `piece_at` is to ensure of its answer
-abbrev pub Answer : List ℕ → ℕ → Next → Type 0
+abbrev pub Answer : List ℕ → ℕ → AtPlace → Type 0
 Answer s at r = record { value : r ≡ next_at at (drop at s); told : Told s at r; only : Only s at r }
 
 module _ (s : List ℕ) (at : ℕ) where
-  pub at_end : length s ≤ at → Answer s at End
+  pub at_end : length s ≤ at → Answer s at (Ok None)
   at_end h = record {
     value = sym (at_drop_all (next_at at) s at h);
     told = h;
@@ -59,9 +57,9 @@ module _ (s : List ℕ) (at : ℕ) where
           ∙ ap (λ k. drop (at + k) s) (sym is_next.1) in
           f.1.1 ∙ ap (λ t. text_of p ++ t) e
 
-      pub at_piece : Answer s at (PieceTo p (at + n))
+      pub at_piece : Answer s at (Ok (Some (p, at + n)))
       at_piece = record {
-        value = ap (λ k. PieceTo p (at + k)) is_next.1 ∙ sym (next_at_lem (drop at s) (Some p) more is_next.0);
+        value = ap (λ k. Ok (Some (p, at + k))) is_next.1 ∙ sym (next_at_lem (drop at s) (Some p) more is_next.0);
         told = record {
           allowed = (next_front (drop at s) p is_next.0).0;
           text = text_there;
@@ -72,10 +70,10 @@ module _ (s : List ℕ) (at : ℕ) where
         only = λ q rest ok e.
             let same : Some p ≡ Some q = sym is_next.0 ∙ ap next e ∙ next_complete q rest ok in
             let eq : p ≡ q = cc in
-            ap (λ k. PieceTo p (at + k)) is_next.1 ∙ ap (λ x. PieceTo x (at + length (text_of x))) eq;
+            ap (λ k. Ok (Some (p, at + k))) is_next.1 ∙ ap (λ x. Ok (Some (x, at + length (text_of x)))) eq;
       }
 
-    pub at_break : None ≡ measured text_of (next (take (length s - at) (drop at s))) → Answer s at Broken
+    pub at_break : None ≡ measured text_of (next (take (length s - at) (drop at s))) → Answer s at (Err a_break)
     at_break found =
         let none : next (drop at s) ≡ None = measured_none text_of (next (drop at s)) (whole_rest None (λ t. measured text_of (next t)) found) in
         record {

@@ -1,34 +1,20 @@
 -- What each way through the reading of a piece finds.
-use Rattle.std.proofs.Common.{◌≡◌, ℕ, ◌+◌, ◌/◌, ◌%◌, ◌≤◌, Bool, true, false, cond, ltb, List, [], ◌∷◌, ◌++◌, length, get_or, drop, Some, None, codes, Option, sym, refl, ap, ◌∙◌, subst, arith, eq-eqb}
-use Rattle.std.specs.Option.{option_or}
+use Rattle.std.proofs.Common.{◌≡◌, ℕ, ◌+◌, Bool, true, false, cond, List, [], ◌∷◌, ◌++◌, length, get_or, drop, Some, None, codes, Option, sym, refl, ap, ◌∙◌, subst, arith, eq-eqb}
+use Rattle.std.specs.Option.{option_or, MatchOption}
 use Rattle.std.proofs.lemmas.List.{drop-drop, get_or-drop, length-append}
 use Rattle.template.specs.declared.Identifier.{Identifier}
 use Rattle.template.specs.declared.Identifier.TheVariants.{RepresentationId, Number, Bandwidth, Time}
 use Rattle.template.specs.declared.Piece.{Piece}
-use Rattle.template.specs.declared.Piece.TheVariants.{Byte, Dollar, Value}
+use Rattle.template.specs.declared.Piece.TheVariants.{Byte, Value}
 use Rattle.template.specs.Pieces.{name_of, width_text, text_of}
 use Rattle.template.specs.Reading.{when, and_then, measured, begins, width_of, closing_text, closing_of, takes, value_with, value_of, values, marked, next}
 use Rattle.template.proofs.Measured.{measured_or}
 
-width_short : (w : ℕ) → length (width_text w) ≤ 2
-width_short w = go (ltb w 10)
-  where
-    go : (x : Bool) → length (cond x ((48 + w) ∷ []) ((48 + w / 10) ∷ ((48 + w % 10) ∷ []))) ≤ 2
-    go true = omega arith
-    go false = omega arith
-
 tag_length : (w : ℕ) → length (closing_text (Some w)) ≡ 4 + length (width_text w)
 tag_length w = omega (arith, length-append (width_text w ++ codes "d") (codes "$"), length-append (width_text w) (codes "d"))
 
-pub closing_short : (tag : Option ℕ) → length (closing_text tag) ≤ 6
-closing_short None = omega arith
-closing_short (Some w) = omega (arith, tag_length w, width_short w)
-
 -- what stands at the place `at` of the text s, behind an identifier's name
 module _ (s : List ℕ) (at : ℕ) where
-  pub plain : begins (codes "$") (drop at s) ≡ true → closing_of (drop at s) ≡ Some None
-  plain h = rw h refl
-
   -- `%0`, and behind it the bytes a and b
   module _ (mark : begins (codes "$") (drop at s) ≡ false) (sign : begins (codes "%0") (drop at s) ≡ true)
       (a b : ℕ) (first : a ≡ get_or s (at + 2) 0) (second : b ≡ get_or s (at + 3) 0) where
@@ -37,9 +23,6 @@ module _ (s : List ℕ) (at : ℕ) where
         ap (λ x. width_of x (get_or (drop at s) 3 0)) (get_or-drop at s 2 0 ∙ sym first)
         ∙ ap (λ x. width_of a x) (get_or-drop at s 3 0 ∙ sym second)
         ∙ e
-
-    pub no_width : width_of a b ≡ None → closing_of (drop at s) ≡ None
-    no_width e = rw (mark, sign, width_there None e) refl
 
     -- the width w of n digits
     module _ (w n : ℕ) (width : (width_of a b ≡ Some w) × (n ≡ length (width_text w))) where
@@ -87,9 +70,6 @@ module _ (t : List ℕ) (dollar : get_or t 0 0 ≡ 36) where
       go [] h = absurd (omega arith)
       go (b ∷ t) h = ap (λ x. cond x (marked t) (Some (Byte b))) (eq-eqb b 36 h)
 
-  pub next_dollar : begins (codes "$") (drop 1 t) ≡ true → next t ≡ Some Dollar
-  next_dollar h = next_marked ∙ rw h refl
-
   next_values : begins (codes "$") (drop 1 t) ≡ false → next t ≡ values (drop 1 t)
   next_values h = next_marked ∙ rw h refl
 
@@ -108,3 +88,8 @@ module _ (t : List ℕ) (dollar : get_or t 0 0 ≡ 36) where
           measured text_of (option_or (option_or (option_or a b) c) d)
           ≡ option_or (option_or (option_or (measured text_of a) (measured text_of b)) (measured text_of c)) (measured text_of d)
       spread a b c d = simp (measured_or text_of)
+
+-- what `or_else` answers, where its closure gives q
+pub or_said : {A : Type 0} (o q r : Option A) (P : Type 0) → MatchOption o P (λ x. r ≡ Some x) → (P → r ≡ q) → r ≡ option_or o q
+or_said None q r P h say = say h
+or_said (Some x) q r P h say = h

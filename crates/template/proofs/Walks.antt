@@ -1,18 +1,19 @@
 -- Whole templates, piece by piece.
-use Rattle.std.proofs.Common.{◌≡◌, ℕ, zero, suc, pred, ◌+◌, Bool, true, false, List, [], ◌∷◌, ◌++◌, length, drop, Some, None, Decides, Option, sym, refl, ap, ◌∙◌, subst, ⊎_elim, append_assoc, append-nil, arith, eq-eqb, eqb-true}
+use Rattle.std.proofs.Common.{◌≡◌, ℕ, zero, suc, pred, ◌-◌, ◌≤◌, Bool, true, false, not, eqb, List, [], ◌∷◌, ◌++◌, length, take, drop, Some, None, Decides, Option, sym, refl, ap, ◌∙◌, subst, ⊎_elim, append_assoc, append-nil, arith, eq-eqb, eqb-true, ne_eqb}
 use borrow.Author.Tests.{clash}
-use Rattle.std.proofs.lemmas.List.Prefix.{front_rest}
+use Rattle.std.specs.List.{list_any}
+use Rattle.std.proofs.lemmas.List.{take_rest}
+use Rattle.std.proofs.lemmas.List.Prefix.{front_rest, front_fits}
 use Rattle.std.proofs.lemmas.Bool.{or_cases, or_left, or_right}
 use Rattle.std.proofs.lemmas.Bool.Decides.{Decides-at}
 use Rattle.template.specs.declared.Identifier.{Identifier}
 use Rattle.template.specs.declared.Identifier.TheVariants.{RepresentationId, Number, Bandwidth, Time}
 use Rattle.template.specs.declared.Piece.{Piece}
 use Rattle.template.specs.declared.Piece.TheVariants.{Byte, Dollar, Value}
-use Rattle.template.specs.declared.Next.{Next}
-use Rattle.template.specs.declared.Next.TheVariants.{Piece as PieceTo, Broken}
 use Rattle.template.specs.Pieces.{name_of, tag_text, text_of, texts, Allowed, AllAllowed}
-use Rattle.template.specs.Reading.{next, ending, next_at, onward, walk, pieces, broken, place, is_value_of, some_value_of, stands}
-use Rattle.template.specs.Laws.{Standing, Whole, Before}
+use Rattle.template.specs.Reading.{measured, next, onward, walk, pieces, broken, place, is_value_of, stands}
+use Rattle.template.specs.Laws.{Whole, Before}
+use Rattle.template.proofs.Measured.{measured_some}
 use Rattle.template.proofs.Sound.{next_front}
 use Rattle.template.proofs.Complete.{next_complete}
 
@@ -108,10 +109,10 @@ is_value i tag = eq-eqb (place i) (place i) refl
 -- an identifier that the reading finds stands before any break
 module _ (i : Identifier) where
   abbrev Found : List ℕ → ℕ → Type 0
-  Found t k = some_value_of i (walk k t).0 ≡ true → Before i (drop k t)
+  Found t k = list_any (is_value_of i) (walk k t).0 ≡ true → Before i (drop k t)
 
   found_onward : (b : ℕ) (t : List ℕ) → ((k : ℕ) → Found t k) → (o : Option Piece) → next (b ∷ t) ≡ o →
-      some_value_of i (onward o (λ k. walk k t)).0 ≡ true → Before i (b ∷ t)
+      list_any (is_value_of i) (onward o (λ k. walk k t)).0 ≡ true → Before i (b ∷ t)
   found_onward b t more None e h = absurd (clash h)
   found_onward b t more (Some p) e h =
       let f = begun_text b t p e in
@@ -131,7 +132,7 @@ module _ (i : Identifier) where
         (f.0, m.3),
         f.1 ∙ ap (λ s. text_of p ++ s) m.4 ∙ sym (append_assoc (text_of p) (texts (m.0 ++ (Value i m.1 ∷ []))) m.2),
       ))
-      (or_cases (is_value_of i p) (some_value_of i (walk k t).0) h)
+      (or_cases (is_value_of i p) (list_any (is_value_of i) (walk k t).0) h)
 
   found : (t : List ℕ) (k : ℕ) → Found t k
   found [] k h = absurd (clash h)
@@ -142,42 +143,47 @@ module _ (i : Identifier) where
       stands i (texts (ps ++ (Value i tag ∷ [])) ++ rest) ≡ true
   stands_from [] tag rest h =
       ap (stands i) (ap (λ s. s ++ rest) (append-nil (text_of (Value i tag))))
-      ∙ ap (some_value_of i) (pieces_text (Value i tag) rest h.0)
+      ∙ ap (list_any (is_value_of i)) (pieces_text (Value i tag) rest h.0)
       ∙ or_left (is_value_of i (Value i tag)) (stands i rest) (is_value i tag)
   stands_from (p ∷ ps) tag rest h =
       ap (stands i) (append_assoc (text_of p) (texts (ps ++ (Value i tag ∷ []))) rest)
-      ∙ ap (some_value_of i) (pieces_text p (texts (ps ++ (Value i tag ∷ [])) ++ rest) h.0)
+      ∙ ap (list_any (is_value_of i)) (pieces_text p (texts (ps ++ (Value i tag ∷ [])) ++ rest) h.0)
       ∙ or_right (is_value_of i p) (stands i (texts (ps ++ (Value i tag ∷ [])) ++ rest)) (stands_from ps tag rest h.1)
 
   pub stands_decides : (t : List ℕ) → Decides (stands i t) (Before i t)
   stands_decides t = (found t 0, λ m. ap (stands i) m.4 ∙ stands_from m.0 m.1 m.2 m.3)
 
--- a turn of a loop over the pieces of the template t
-module _ (t : List ℕ) (at : ℕ) (p : Piece) (end : ℕ) (here : Standing t at p end) where
-  pub broken_on : broken (drop at t) ≡ broken (drop end t)
-  broken_on = ap broken here.text ∙ broken_text p (drop end t) here.allowed
+-- behind the last piece the template breaks, or ends
+pub broken_stop : (t : List ℕ) → pieces t ≡ [] → (r : Bool) → r ≡ eqb (length t) 0 → not r ≡ broken t
+broken_stop [] e r is = ap not is
+broken_stop (b ∷ t) e r is =
+    ap not (is ∙ ne_eqb (suc (length t)) 0 (λ z. absurd (omega arith))) ∙ sym (go (next (b ∷ t)) e)
+  where
+    go : (o : Option Piece) → (onward o (λ k. walk k t)).0 ≡ [] → (onward o (λ k. walk k t)).1 ≡ true
+    go None none = refl
+    go (Some p) none = let z : ◌≡◌ {A = ℕ} 0 1 = cc in absurd (omega arith)
 
-  pub pieces_on : pieces (drop at t) ≡ p ∷ pieces (drop end t)
-  pieces_on = ap pieces here.text ∙ pieces_text p (drop end t) here.allowed
+-- the pieces of a text that begins with the piece p, of n bytes
+module _ (t : List ℕ) (p : Piece) (n : ℕ) (found : Some (p, n) ≡ measured text_of (next t)) where
+  begins_it : (next t ≡ Some p) × (n ≡ length (text_of p))
+  begins_it = measured_some text_of (next t) p n found
 
--- where the pieces stop, at the place `at` with the text t left
-module _ (at : ℕ) where
-  pub broken_here : (t : List ℕ) → Broken ≡ next_at at t → broken t ≡ true
-  broken_here [] h = absurd (let z : ◌≡◌ {A = ℕ} 0 1 = cc in omega arith)
-  broken_here (b ∷ t) h = go (next (b ∷ t)) h
-    where
-      go : (o : Option Piece) → Broken ≡ ending at o → (onward o (λ k. walk k t)).1 ≡ true
-      go None h = refl
-      go (Some p) h = absurd (let z : ◌≡◌ {A = ℕ} 0 1 = cc in omega arith)
+  pub piece_fits : n ≤ length t
+  piece_fits =
+      let f = next_front t p begins_it.0 in
+      omega (arith, begins_it.1, front_fits t (text_of p) f.1.0 f.1.1)
 
-  pub pieces_stop : (r : Next) (t : List ℕ) → r ≡ next_at at t → ((p : Piece) (end : ℕ) → r ≡ PieceTo p end → ⊥) →
-      pieces t ≡ []
-  pieces_stop r [] e none = refl
-  pieces_stop r (b ∷ t) e none = go (next (b ∷ t)) e
-    where
-      go : (o : Option Piece) → r ≡ ending at o → (onward o (λ k. walk k t)).0 ≡ []
-      go None e = refl
-      go (Some p) e = absurd (none p (at + length (text_of p)) e)
+  begun : (t ≡ text_of p ++ drop n t) × Allowed p
+  begun =
+      let f = next_front t p begins_it.0 in
+      let rest : drop n t ≡ f.1.0 = ap (λ k. drop k t) begins_it.1 ∙ front_rest t (text_of p) f.1.0 f.1.1 in
+      (f.1.1 ∙ ap (λ s. text_of p ++ s) (sym rest), f.0)
+
+  pub broken_first : broken (take (length t - n) (drop n t)) ≡ broken t
+  broken_first = ap broken (take_rest t n) ∙ sym (ap broken begun.0 ∙ broken_text p (drop n t) begun.1)
+
+  pub pieces_first : pieces t ≡ p ∷ pieces (take (length t - n) (drop n t))
+  pieces_first = ap pieces begun.0 ∙ pieces_text p (drop n t) begun.1 ∙ ap (λ s. p ∷ pieces s) (sym (take_rest t n))
 
 module _ (t : List ℕ) (r : Bool) where
   pub broken_tells : r ≡ broken t →

@@ -1,3 +1,4 @@
 pub mod Pieces
 pub mod Reading
 pub mod Laws
+pub mod Left

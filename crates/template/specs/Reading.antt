@@ -1,12 +1,12 @@
 -- A template read from left to right.
-use Rattle.std.specs.Prelude.{ℕ, zero, suc, pred, ◌+◌, ◌-◌, Bool, true, false, cond, ◌&&◌, ◌||◌, List, [], ◌∷◌, ◌++◌, length, drop, Some, None, codes, Option, ◌==◌, nat_le, slice_index}
+use Rattle.std.specs.Prelude.{ℕ, zero, suc, pred, ◌+◌, ◌-◌, Bool, true, false, cond, ◌&&◌, List, [], ◌∷◌, ◌++◌, length, drop, Some, None, Ok, Err, codes, Option, Result, ◌==◌, nat_le, slice_index}
+use Rattle.std.specs.List.{list_any}
 use Rattle.std.specs.Option.{option_or}
 use Rattle.template.specs.declared.Identifier.{Identifier}
 use Rattle.template.specs.declared.Identifier.TheVariants.{RepresentationId, Number, Bandwidth, Time}
 use Rattle.template.specs.declared.Piece.{Piece}
 use Rattle.template.specs.declared.Piece.TheVariants.{Byte, Dollar, Value}
-use Rattle.template.specs.declared.Next.{Next}
-use Rattle.template.specs.declared.Next.TheVariants.{Piece as PieceTo, End, Broken}
+use Rattle.template.specs.declared.Broken.{Broken}
 use Rattle.template.specs.Pieces.{name_of, width_text, tag_text, text_of}
 
 -- what there is, if the test holds
@@ -87,14 +87,22 @@ abbrev pub next : List ℕ → Option Piece
 next [] = None
 next (b ∷ t) = cond (b == 36) (marked t) (Some (Byte b))
 
+-- what a place of a template has: a piece and where it ends, none at the end, or a break
+abbrev pub AtPlace : Type 0
+AtPlace = Result (Option (Piece × ℕ)) Broken
+
+-- the refusal of a template
+abbrev pub a_break : Broken
+a_break = record {}
+
 -- the piece at the place `at` with where it ends, or a break
-abbrev pub ending : ℕ → Option Piece → Next
-ending at None = Broken
-ending at (Some p) = PieceTo p (at + length (text_of p))
+abbrev pub ending : ℕ → Option Piece → AtPlace
+ending at None = Err a_break
+ending at (Some p) = Ok (Some (p, at + length (text_of p)))
 
 -- what stands at the place `at`, from which the text goes on
-abbrev pub next_at : ℕ → List ℕ → Next
-next_at at [] = End
+abbrev pub next_at : ℕ → List ℕ → AtPlace
+next_at at [] = Ok None
 next_at at (b ∷ t) = ending at (next (b ∷ t))
 
 -- the piece and what comes behind the rest of its bytes, or a break
@@ -129,11 +137,6 @@ is_value_of i (Byte b) = false
 is_value_of i Dollar = false
 is_value_of i (Value j tag) = place j == place i
 
--- whether one of the pieces gives the value of the identifier
-abbrev pub some_value_of : Identifier → List Piece → Bool
-some_value_of i [] = false
-some_value_of i (p ∷ ps) = is_value_of i p || some_value_of i ps
-
 -- whether an identifier stands before any break
 abbrev pub stands : Identifier → List ℕ → Bool
-stands i t = some_value_of i (pieces t)
+stands i t = list_any (is_value_of i) (pieces t)

@@ -2,8 +2,10 @@
 #![tactic(auto)]
 
 ghost use Rattle.std.specs.Prelude.{◌≡◌, ◌<◌, true, false, drop, Decides, slice_index};
+ghost use Rattle.std.specs.Iterator.{YieldsFirst};
 ghost use Rattle.template.specs.Pieces.{name_of, width_text, text_of};
-ghost use Rattle.template.specs.Reading.{begins, is_digit, width_of, closing_of, value_of, next, next_at, takes, is_value_of, broken, stands, measured, closing_text};
+ghost use Rattle.template.specs.Reading.{begins, width_of, closing_of, value_of, next, next_at, pieces, takes, is_value_of, broken, stands, measured, closing_text};
+ghost use Rattle.template.specs.Left.{pieces_left, left_broken};
 ghost use Rattle.template.specs.Laws.{Told, Only, Whole, Before};
 
 // What a template can ask the value of.
@@ -26,44 +28,72 @@ pub enum Piece {
     Value(Identifier, Option<u8>),
 }
 
-// What stands at a place of a template.
+// The refusal of a template that goes on with no piece.
 #[derive(Clone, Copy, Debug, PartialEq, Eq)]
-pub enum Next {
-    // A piece, and where it ends.
-    Piece(Piece, usize),
-    End,
-    Broken,
-}
+pub struct Broken;
 
-// What stands at the place `at`, which may lie past the end.
-pub fn piece_at(template: &[u8], at: usize) -> Next
+// The piece at the place `at`, and where it ends. From the template's end on there is none.
+pub fn piece_at(template: &[u8], at: usize) -> Result<Option<(Piece, usize)>, Broken>
     ensures value { result ≡ next_at at (drop at template.now) }
     ensures told { Told template.now at result }
     ensures only { Only template.now at result }
 {
     if at >= template.len() {
-        return Next::End;
+        return Ok(None);
     }
-    match first_piece(&template[at..]) {
-        Some((piece, long)) => Next::Piece(piece, at + long),
-        None => Next::Broken,
+    let (piece, long) = first_piece(&template[at..]).ok_or(Broken)?;
+    Ok(Some((piece, at + long)))
+}
+
+// The pieces of a template from left to right, up to its end or the first break.
+#[derive(Clone, Copy, Debug)]
+pub struct Pieces<'a> {
+    rest: &'a [u8],
+}
+
+impl<'a> Pieces<'a> {
+    pub fn of(template: &'a [u8]) -> Pieces<'a>
+        ensures pieces { pieces_left result ≡ pieces template.now }
+        ensures broken { left_broken result ≡ broken template.now }
+    {
+        Pieces { rest: template }
+    }
+
+    // The first of the pieces that are left. A break that follows them still follows.
+    fn advance(&mut self) -> Option<Piece>
+        ensures steps { YieldsFirst pieces_left self.old result self.new }
+        ensures broken { left_broken self.new ≡ left_broken self.old }
+    {
+        let (piece, long) = first_piece(self.rest)?;
+        self.rest = &self.rest[long..];
+        Some(piece)
     }
 }
 
-// Whether the template breaks anywhere.
+impl<'a> Iterator for Pieces<'a> {
+    ghost use Rattle.std.specs.Iterator.{YieldsFirst, item_count};
+    ghost use Rattle.template.specs.Left.{pieces_left};
+
+    type Item = Piece;
+
+    ghost next_gives = { YieldsFirst pieces_left };
+
+    ghost remaining = { item_count pieces_left };
+
+    fn next(&mut self) -> Option<Piece> {
+        self.advance()
+    }
+}
+
+// Whether the template breaks anywhere: then its pieces stop short of its end.
 pub fn is_broken(template: &[u8]) -> bool
     ensures value { result ≡ broken template.now }
     ensures whole { result ≡ false → Whole template.now }
     ensures torn { result ≡ true → Whole template.now → ⊥ }
 {
-    let mut at = 0;
-    'pieces: loop {
-        match piece_at(template, at) {
-            Next::Piece(_, end) => at = end,
-            Next::End => return false,
-            Next::Broken => return true,
-        }
-    }
+    let mut pieces = Pieces::of(template);
+    while pieces.advance().is_some() {}
+    !pieces.rest.is_empty()
 }
 
 // Whether the identifier stands before any break.
@@ -71,23 +101,13 @@ pub fn holds(template: &[u8], sought: Identifier) -> bool
     ensures value { result ≡ stands sought template.now }
     ensures before { Decides result (Before sought template.now) }
 {
-    let mut at = 0;
-    'pieces: while let Next::Piece(piece, end) = piece_at(template, at) {
-        if is_value_of(piece, sought) {
-            return true;
-        }
-        at = end;
-    }
-    false
+    Pieces::of(template).any(|piece| is_value_of(piece, sought))
 }
 
 fn is_value_of(piece: Piece, sought: Identifier) -> bool
     ensures { result ≡ is_value_of sought piece }
 {
-    match piece {
-        Piece::Value(identifier, _) => identifier == sought,
-        Piece::Byte(_) | Piece::Dollar => false,
-    }
+    matches!(piece, Piece::Value(identifier, _) if identifier == sought)
 }
 
 // The piece that the text begins with, and how many bytes it takes.
@@ -104,9 +124,9 @@ fn first_piece(text: &[u8]) -> Option<(Piece, usize)>
         return Some((Piece::Dollar, 2));
     }
     first_value(text, Identifier::RepresentationId)
-        .or(first_value(text, Identifier::Number))
-        .or(first_value(text, Identifier::Bandwidth))
-        .or(first_value(text, Identifier::Time))
+        .or_else(|| first_value(text, Identifier::Number))
+        .or_else(|| first_value(text, Identifier::Bandwidth))
+        .or_else(|| first_value(text, Identifier::Time))
 }
 
 // The value of the identifier, if the text goes on with it behind its first byte, a `$`, and how many bytes it takes with that.
@@ -129,10 +149,7 @@ fn first_value(text: &[u8], identifier: Identifier) -> Option<(Piece, usize)>
 fn takes_tag(identifier: Identifier, tag: Option<u8>) -> bool
     ensures { result ≡ takes identifier tag }
 {
-    match tag {
-        Some(_) => identifier != Identifier::RepresentationId,
-        None => true,
-    }
+    tag.is_none() || identifier != Identifier::RepresentationId
 }
 
 fn name_of(identifier: Identifier) -> &'static [u8]
@@ -168,24 +185,11 @@ fn closing(text: &[u8], at: usize) -> Option<(Option<u8>, usize)>
 fn width_of(first: u8, second: u8) -> Option<(u8, usize)>
     ensures { result ≡ measured width_text (width_of first second) }
 {
-    if first == b'1' && is_digit(second) {
-        return Some((10 + (second - b'0'), 2));
-    }
-    if first == b'2' && second == b'0' {
-        return Some((20, 2));
-    }
-    if first >= b'1' && first <= b'9' {
-        return Some((first - b'0', 1));
-    }
-    None
-}
-
-fn is_digit(byte: u8) -> bool
-    ensures { result ≡ is_digit byte }
-{
-    match byte {
-        b'0'..=b'9' => true,
-        _ => false,
+    match (first, second) {
+        (b'1', b'0'..=b'9') => Some((10 + (second - b'0'), 2)),
+        (b'2', b'0') => Some((20, 2)),
+        (b'1'..=b'9', _) => Some((first - b'0', 1)),
+        _ => None,
     }
 }
 
@@ -193,7 +197,7 @@ fn is_digit(byte: u8) -> bool
 fn byte_at(text: &[u8], at: usize) -> u8
     ensures { result ≡ slice_index text.now at }
 {
-    if at < text.len() { text[at] } else { 0 }
+    text.get(at).copied().unwrap_or(0)
 }
 
 // Whether the word stands at the place `at`.
@@ -238,13 +242,13 @@ mod tests {
 
     #[test]
     fn pieces(rt: HostRuntime) {
-        assert_eq!(rt; piece_at(b"a$$", 0), Next::Piece(Piece::Byte(b'a'), 1));
-        assert_eq!(rt; piece_at(b"a$$", 1), Next::Piece(Piece::Dollar, 3));
-        assert_eq!(rt; piece_at(b"a$$", 2), Next::Broken);
-        assert_eq!(rt; piece_at(b"a$$", 9), Next::End);
+        assert_eq!(rt; piece_at(b"a$$", 0), Ok(Some((Piece::Byte(b'a'), 1))));
+        assert_eq!(rt; piece_at(b"a$$", 1), Ok(Some((Piece::Dollar, 3))));
+        assert_eq!(rt; piece_at(b"a$$", 2), Err(Broken));
+        assert_eq!(rt; piece_at(b"a$$", 9), Ok(None));
         assert_eq!(rt;
             piece_at(b"-$Time%012d$", 1),
-            Next::Piece(Piece::Value(Identifier::Time, Some(12)), 12)
+            Ok(Some((Piece::Value(Identifier::Time, Some(12)), 12)))
         );
     }
 }

@@ -1,11 +1,11 @@
 -- What an answer about a place tells of the list.
-use Rattle.std.proofs.Common.{◌≡◌, ℕ, ◌+◌, ◌-◌, ◌<◌, ◌≤◌, Bool, true, false, ltb, leb, List, length, get_or, drop, Ok, Err, filter, Result, sym, ap, ◌∙◌, subst, inl, inr, arith, length-drop}
+use Rattle.std.proofs.Common.{◌≡◌, ℕ, ◌+◌, ◌-◌, ◌<◌, ◌≤◌, Bool, true, false, ltb, List, length, get_or, drop, Ok, Err, filter, sym, ap, ◌∙◌, subst, inl, inr, arith, length-drop}
 use Rattle.std.proofs.lemmas.List.{length-take-le, get_or-drop}
-use Rattle.std.proofs.lemmas.Bool.{lt-ltb, le-ltb, cases_lt, both_ways, ltb-true, ltb-false}
+use Rattle.std.proofs.lemmas.Bool.{lt-ltb, le-ltb, cases_lt}
+use Rattle.std.proofs.lemmas.Bool.Decides.{nat_tests}
 use Rattle.timeline.specs.declared.segment.Segment.{Segment}
 use Rattle.timeline.specs.declared.fault.NoSuchPlace.{NoSuchPlace}
-use Rattle.timeline.specs.Refusals.{no_such_place}
-use Rattle.timeline.specs.Segments.{end, blank, told, Sound, Limited, after, within_of, over_by, under_way}
+use Rattle.timeline.specs.Segments.{end, blank, told, Sound, Limited, after, within_of, under_way}
 use Rattle.timeline.specs.Laws.Kept.{kept_front, kept_back}
 use Rattle.timeline.specs.Laws.Splits.{Split, Begun}
 use Rattle.timeline.specs.Laws.Tellings.{told_at, told_past, limited_at}
@@ -17,9 +17,6 @@ pub record Stands (xs : List Segment) (i : ℕ) (s : Segment) : Type 0 where
   pub is : (d : Segment) → get_or xs i d ≡ s
   pub limited : Limited s
 
-apart : (s : Segment) (e : NoSuchPlace) (r : Result Segment NoSuchPlace) → r ≡ Ok s → r ≡ Err e → ⊥
-apart s e r a b = let z : ◌≡◌ {A = ℕ} 0 1 = cc in omega arith
-
 module _ (xs : List Segment) (ok : Sound xs) (i : ℕ) where
   pub stands : (s : Segment) → Ok s ≡ told xs i → Stands xs i s
   stands s e =
@@ -27,29 +24,26 @@ module _ (xs : List Segment) (ok : Sound xs) (i : ℕ) where
         | inl l ↦
             let is : (d : Segment) → get_or xs i d ≡ s = λ d. let t = told_at xs i d l in cc in
             record { there = l; is = is; limited = subst Limited (is blank) (limited_at xs ok i blank l) }
-        | inr l ↦ absurd (apart s no_such_place (told xs i) (sym e) (told_past xs i l))
+        | inr l ↦ let t = told_past xs i l in absurd cc
       ]
 
   pub past : (e : NoSuchPlace) → Err e ≡ told xs i → length xs ≤ i
   past e t =
       elim (cases_lt i (length xs)) [
-        | inl l ↦ absurd (apart (get_or xs i blank) e (told xs i) (told_at xs i blank l) (sym t))
+        | inl l ↦ let t' = told_at xs i blank l in absurd cc
         | inr l ↦ l
       ]
 
 module _ (xs : List Segment) (i tick : ℕ) where
-  pub over_at : (d : Segment) → i < length xs → (r : Bool) → r ≡ over_by tick (told xs i) → leb (end (get_or xs i d)) tick ≡ r
-  over_at d h r e = sym (e ∙ ap (over_by tick) (told_at xs i d h))
-
   pub begins_at : (r : Bool) → r ≡ under_way tick (told xs i) → r ≡ true → (i < length xs) × ((get_or xs i blank).start < tick)
   begins_at r e h =
       elim (cases_lt i (length xs)) [
-        | inl l ↦ (l, ltb-true (get_or xs i blank).start tick (sym (ap (under_way tick) (told_at xs i blank l)) ∙ sym e ∙ h))
-        | inr l ↦ absurd (both_ways r (e ∙ ap (under_way tick) (told_past xs i l)) h)
+        | inl l ↦ let t = told_at xs i blank l in (l, grind (arith, nat_tests))
+        | inr l ↦ let t = told_past xs i l in grind arith
       ]
 
   pub waits_at : (r : Bool) → r ≡ under_way tick (told xs i) → r ≡ false → i < length xs → tick ≤ (get_or xs i blank).start
-  waits_at r e h l = ltb-false (get_or xs i blank).start tick (sym (ap (under_way tick) (told_at xs i blank l)) ∙ sym e ∙ h)
+  waits_at r e h l = let t = told_at xs i blank l in grind (arith, nat_tests)
 
 -- the segments that end after a tick are those from a place on
 module _ (xs : List Segment) (tick k : ℕ) (split : Split xs tick k) where

@@ -1,5 +1,5 @@
 -- Filters after one another, and over a map.
-use Rattle.std.proofs.Common.{◌≡◌, Bool, true, false, cond, ◌&&◌, List, [], ◌∷◌, ◌++◌, map, filter, refl, ap, ◌∙◌}
+use Rattle.std.proofs.Common.{◌≡◌, Bool, true, false, cond, ◌&&◌, List, [], ◌∷◌, map, filter, refl, ap, ◌∙◌}
 use Rattle.std.specs.List.{AllByRecursion}
 
 module _ {X : Type 0} where
@@ -23,15 +23,3 @@ module _ {X : Type 0} where
   pub kept_same : (P : X → Type 0) (p q : X → Bool) → ((x : X) → P x → p x ≡ q x) → (xs : List X) → AllByRecursion P xs → filter p xs ≡ filter q xs
   kept_same P p q same [] all = refl
   kept_same P p q same (x ∷ xs) all = rw (same x all.0, kept_same P p q same xs all.1)
-
-  pub kept_never : (xs : List X) → filter (λ x. false) xs ≡ []
-  kept_never [] = refl
-  kept_never (x ∷ xs) = kept_never xs
-
-  cond-append : (b : Bool) (x : X) (xs ys : List X) → cond b (x ∷ (xs ++ ys)) (xs ++ ys) ≡ cond b (x ∷ xs) xs ++ ys
-  cond-append true x xs ys = refl
-  cond-append false x xs ys = refl
-
-  pub kept_append : (p : X → Bool) (xs ys : List X) → filter p (xs ++ ys) ≡ filter p xs ++ filter p ys
-  kept_append p [] ys = refl
-  kept_append p (x ∷ xs) ys = ap (λ zs. cond (p x) (x ∷ zs) zs) (kept_append p xs ys) ∙ cond-append (p x) x (filter p xs) (filter p ys)

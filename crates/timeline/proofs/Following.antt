@@ -1,20 +1,18 @@
 -- The places below that the places of a layer stand for.
 use Rattle.std.proofs.Common.{◌≡◌, ℕ, ◌+◌, ◌<◌, min, false, ◌&&◌, ltb, leb, List, length, filter, sym, refl, ap, ◌∙◌, arith}
 use Rattle.std.proofs.lemmas.List.{length-map}
+use Rattle.std.proofs.lemmas.List.Filters.{length-filter_both}
 use Rattle.std.proofs.lemmas.Bool.Decides.{nat_tests}
 use Rattle.timeline.specs.declared.segment.Segment.{Segment}
 use Rattle.timeline.specs.Segments.{end, Sound, Limited, ended_by, after}
 use Rattle.timeline.specs.Layers.{earlier, shifted, shortened, cut_off}
-use Rattle.timeline.specs.Laws.Splits.{counts_split, ended_within}
-use Rattle.timeline.specs.Laws.Shifts.{sound_shifted}
-use Rattle.timeline.proofs.Filters.{kept_map, kept_kept, kept_same, kept_never}
-use Rattle.timeline.proofs.Asked.{length-after}
+use Rattle.timeline.specs.Laws.Kept.{kept_nothing}
+use Rattle.timeline.proofs.Filters.{kept_map, kept_kept, kept_same}
 use Rattle.timeline.proofs.Layered.{after_shifted}
 
 -- those that have ended are what is left of those that have not
-pub ended_left : (xs : List Segment) → Sound xs → (tick : ℕ) → length (after tick xs) + ended_by xs tick ≡ length xs
-ended_left xs ok tick =
-    omega (arith, length-after xs tick (ended_by xs tick) (counts_split xs ok tick (ended_by xs tick) refl), ended_within xs tick (ended_by xs tick) refl)
+pub ended_left : (xs : List Segment) (tick : ℕ) → length (after tick xs) + ended_by xs tick ≡ length xs
+ended_left xs tick = length-filter_both (λ s. ltb tick (end s)) (λ s. leb (end s) tick) (λ s. grind (arith, nat_tests)) xs
 
 module _ (xs : List Segment) (ok : Sound xs) where
   module _ (by from m : ℕ) (sum : m ≡ min (by + from) 18446744073709551615) where
@@ -23,7 +21,7 @@ module _ (xs : List Segment) (ok : Sound xs) where
 
     pub places_shifted : (n : ℕ) → ended_by xs m + n ≡ ended_by xs by + (ended_by (shifted by xs) from + n)
     places_shifted n =
-        omega (arith, ended_left xs ok by, ended_left xs ok m, ended_left (shifted by xs) (sound_shifted by xs ok) from, length-after_shifted, length-map (after by xs) (earlier by))
+        omega (arith, ended_left xs by, ended_left xs m, ended_left (shifted by xs) from, length-after_shifted, length-map (after by xs) (earlier by))
 
   module _ (at from : ℕ) (early : from < at) where
     pub places_cut : ended_by xs from ≡ ended_by (cut_off at xs) from
@@ -35,4 +33,4 @@ module _ (xs : List Segment) (ok : Sound xs) where
 
   -- no segment has ended by 0
   pub none_ended : ended_by xs 0 ≡ 0
-  none_ended = ap length (kept_same Limited (λ s. leb (end s) 0) (λ s. false) (λ s l. let w = l.long in grind (arith, nat_tests)) xs ok.limited ∙ kept_never xs)
+  none_ended = ap length (kept_same Limited (λ s. leb (end s) 0) (λ s. false) (λ s l. let w = l.long in grind (arith, nat_tests)) xs ok.limited ∙ kept_nothing (λ s. false) xs (λ i d h. refl))

@@ -10,7 +10,7 @@ use Rattle.timeline.specs.Layers.{earlier, shifted, shortened, cut_off, mapped, 
 use Rattle.timeline.specs.Laws.Kept.{kept_nothing, Turns, turned}
 use Rattle.timeline.specs.Laws.Splits.{counts_split}
 use Rattle.timeline.specs.Laws.Tellings.{starts_rise}
-use Rattle.timeline.proofs.Filters.{kept_map, kept_kept, kept_same, kept_never}
+use Rattle.timeline.proofs.Filters.{kept_map, kept_kept, kept_same}
 use Rattle.timeline.proofs.Asked.{after_is}
 
 -- what is told of a changed list, and of the front of one
@@ -86,7 +86,7 @@ module _ (xs : List Segment) (ok : Sound xs) where
         kept_map (λ s. ltb from (end s)) (shortened at) (filter (λ s. ltb s.start at) xs)
         ∙ ap (map (shortened at)) (kept_kept (λ s. ltb from (end (shortened at s))) (λ s. ltb s.start at) xs
         ∙ kept_same Limited (λ s. ltb s.start at && ltb from (end (shortened at s))) (λ s. false) (λ s l. grind (arith, nat_tests)) xs ok.limited
-        ∙ kept_never xs)
+        ∙ kept_nothing (λ s. false) xs (λ i d h. refl))
 
     pub within_past : (from to : ℕ) → at ≤ from → within_of (cut_off at xs) from to ≡ 0
     within_past from to late =

@@ -1,5 +1,5 @@
 -- The parts of each segment make up its length, and so do those of all.
-use Rattle.std.proofs.Common.{◌≡◌, ℕ, ◌+◌, ◌-◌, ◌<◌, ◌≤◌, List, [], ◌∷◌, sum_by, refl, ap, ◌∙◌, inl, inr, arith}
+use Rattle.std.proofs.Common.{ℕ, ◌+◌, ◌-◌, [], ◌∷◌, refl, inl, inr, arith}
 use Rattle.std.proofs.lemmas.List.Sums.{sum_by-cons}
 use Rattle.std.proofs.lemmas.Bool.{cases_lt, lt-ltb, le-ltb}
 use Rattle.timeline.specs.declared.segment.Segment.{Segment}
@@ -10,16 +10,6 @@ use Rattle.timeline.specs.Theorems.{part_before, part_after, PartsAddUp}
 abbrev long : Segment → ℕ
 long s = s.length
 
-module _ (o c : ℕ) (x : Segment) (xs : List Segment) where
-  listed_part : o < end x → x.start - o < c → cut_off c (shifted o (x ∷ xs)) ≡ shortened c (earlier o x) ∷ cut_off c (shifted o xs)
-  listed_part ends starts = rw (lt-ltb o (end x) ends, lt-ltb (x.start - o) c starts)
-
-  listed_late : o < end x → c ≤ x.start - o → cut_off c (shifted o (x ∷ xs)) ≡ cut_off c (shifted o xs)
-  listed_late ends late = rw (lt-ltb o (end x) ends, le-ltb (x.start - o) c late)
-
-  listed_early : end x ≤ o → cut_off c (shifted o (x ∷ xs)) ≡ cut_off c (shifted o xs)
-  listed_early over = rw (le-ltb o (end x) over)
-
 pub parts_add_up : PartsAddUp
 parts_add_up [] o c = refl
 parts_add_up (x ∷ xs) o c =
@@ -28,10 +18,11 @@ parts_add_up (x ∷ xs) o c =
     let all = sum_by-cons long x xs in
     let before = sum_by-cons (part_before o) x xs in
     let after = sum_by-cons (part_after (o + c)) x xs in
+    let listed = sum_by-cons long (shortened c (earlier o x)) rest in
     elim (cases_lt o (end x)) [
       | inl ends ↦ elim (cases_lt (x.start - o) c) [
-        | inl starts ↦ omega (arith, ap (sum_by long) (listed_part o c x xs ends starts) ∙ sum_by-cons long (shortened c (earlier o x)) rest)
-        | inr late ↦ omega (arith, ap (sum_by long) (listed_late o c x xs ends late))
+        | inl starts ↦ rw (lt-ltb o (end x) ends, lt-ltb (x.start - o) c starts) (omega arith)
+        | inr late ↦ rw (lt-ltb o (end x) ends, le-ltb (x.start - o) c late) (omega arith)
       ]
-      | inr over ↦ omega (arith, ap (sum_by long) (listed_early o c x xs over))
+      | inr over ↦ rw (le-ltb o (end x) over) (omega arith)
     ]

@@ -1,17 +1,20 @@
 -- What a walk over the runs finds.
-use Rattle.std.proofs.Common.{◌≡◌, ℕ, zero, suc, ◌+◌, ◌-◌, ◌/◌, ◌<◌, ◌≤◌, min, true, false, leb, List, [], ◌∷◌, ◌++◌, length, get_or, drop, Ok, Err, filter, sym, refl, ap, ◌∙◌, mul-le-mul_right, add-mul, mul-le-mul_left, div-mul-le_self, arith}
+use Rattle.std.proofs.Common.{◌≡◌, ℕ, zero, suc, ◌+◌, ◌-◌, ◌/◌, ◌<◌, ◌≤◌, min, true, leb, List, [], ◌∷◌, ◌++◌, length, get_or, drop, Ok, Err, filter, sym, refl, ap, ◌∙◌, mul-le-mul_right, add-mul, div-mul-le_self, arith}
 use native.Mathlib.Nat.{lt-div-mul-add}
+use Rattle.std.specs.List.{sum_by}
 use Rattle.std.proofs.lemmas.List.{length-append, at_drop_more}
-use Rattle.std.proofs.lemmas.Bool.{and_from}
+use Rattle.std.proofs.lemmas.List.Sums.{sum_by-cons}
+use Rattle.std.proofs.lemmas.List.Elements.{filter-append}
 use Rattle.timeline.specs.declared.run.Run.{Run}
 use Rattle.timeline.specs.declared.segment.Segment.{Segment}
+use Rattle.timeline.specs.declared.written.Written.{Written}
+use Rattle.timeline.specs.Bottoms.{of_written, sound_written}
 use Rattle.timeline.specs.Refusals.{no_such_place}
-use Rattle.timeline.specs.Segments.{end, blank, told, ended_by, Sound, Limited}
-use Rattle.timeline.specs.Runs.{nth_of, run_end, run_list, expanded, many, fair_run, fair_from}
+use Rattle.timeline.specs.Segments.{end, blank, told, ended_by, Limited}
+use Rattle.timeline.specs.Runs.{no_run, nth_of, run_end, run_list, expanded, fair_from}
 use Rattle.timeline.specs.Laws.Tellings.{told_at, told_past}
 use Rattle.timeline.specs.Laws.Splits.{Split, split_counts}
-use Rattle.timeline.specs.Laws.Expands.{length_run, get_or-run, Fair, fair_parts}
-use Rattle.timeline.proofs.Filters.{kept_append}
+use Rattle.timeline.specs.Laws.Expands.{length_run, get_or-run, fair_parts}
 use Rattle.timeline.proofs.Asked.{stands}
 
 -- what is told of a place, by whether it is in the first run
@@ -47,9 +50,11 @@ module _ (number : ℕ) (runs : List Run) (i : ℕ) (d : Run) (here : i < length
       ∙ told_later (run_list number r) rest left (rw length_run h)
       ∙ ap (λ n. told rest (left - n)) (length_run number r)
 
-  -- the segment there keeps the limits of a list that tells it
-  pub limited_stop : (xs : List Segment) → Sound xs → (place left : ℕ) → left < (get_or runs i d).count → told xs place ≡ told (expanded number (drop i runs)) left → Limited (nth_of number (get_or runs i d) left)
-  limited_stop xs ok place left h e = (stands xs ok place (nth_of number (get_or runs i d) left) (sym (e ∙ told_stop left h))).limited
+-- the segment that a walk over the runs of a timeline comes to keeps the limits
+pub limited_stop : (t : Written) (place left i : ℕ) → i < length t.runs.now → left < (get_or t.runs.now i no_run).count → told (of_written t) place ≡ told (expanded (t.first + (place - left)) (drop i t.runs.now)) left → Limited (nth_of (t.first + (place - left)) (get_or t.runs.now i no_run) left)
+limited_stop t place left i here h e =
+    let number = t.first + (place - left) in
+    (stands (of_written t) (sound_written t) place (nth_of number (get_or t.runs.now i no_run) left) (sym (e ∙ told_stop number t.runs.now i no_run here left h))).limited
 
 -- how many segments of a run have ended by a tick
 abbrev pub ended_in : ℕ → Run → ℕ
@@ -73,8 +78,7 @@ ended_run number r tick long = split_counts (run_list number r) tick (ended_in t
 
 -- and of one run after another
 abbrev pub ended_among : ℕ → List Run → ℕ
-ended_among tick [] = 0
-ended_among tick (r ∷ rs) = ended_in tick r + ended_among tick rs
+ended_among tick = sum_by (λ r. ended_by (run_list 0 r) tick)
 
 pub ended_expanded : (from first : ℕ) (runs : List Run) (tick : ℕ) → fair_from from runs ≡ true → ended_among tick runs ≡ ended_by (expanded first runs) tick
 ended_expanded from first [] tick fair = refl
@@ -85,34 +89,16 @@ ended_expanded from first (r ∷ rs) tick fair =
     let ys = expanded (first + r.count) rs in
     omega (
       arith,
+      sum_by-cons (λ q. ended_by (run_list 0 q) tick) r rs,
       ended_run first r tick f.long,
+      ended_run 0 r tick f.long,
       ended_expanded (run_end r) (first + r.count) rs tick f.rest,
-      ap length (kept_append p xs ys),
+      ap length (filter-append p xs ys),
       length-append (filter p xs) (filter p ys),
     )
 
-pub fair_long : (from : ℕ) (runs : List Run) → fair_from from runs ≡ true → (i : ℕ) (d : Run) → i < length runs → 1 ≤ (get_or runs i d).length
-fair_long from [] fair i d h = absurd (omega arith)
-fair_long from (r ∷ rs) fair zero d h = (fair_parts from r rs fair).long
-fair_long from (r ∷ rs) fair (suc i) d h = fair_long (run_end r) rs (fair_parts from r rs fair).rest i d (omega arith)
-
--- a fair run has no more segments than ticks
-pub fair_one : (from : ℕ) (r : Run) → fair_run from r ≡ true → Fair from r []
-fair_one from r passes = fair_parts from r [] (and_from _ _ passes refl)
-
-pub few_in : (r : Run) → 1 ≤ r.length → r.start + r.count ≤ run_end r
-few_in r long = omega (arith, mul-le-mul_left {m = 1} {n = r.length} r.count long)
-
--- one run more, of those that are left
-module _ (runs : List Run) (i : ℕ) (d : Run) (here : i < length runs) where
-  pub ended_more : (tick : ℕ) → ended_among tick (drop i runs) ≡ ended_in tick (get_or runs i d) + ended_among tick (drop (i + 1) runs)
-  ended_more tick = at_drop_more (ended_among tick) runs i d here
-
-  pub many_more : many (drop i runs) ≡ (get_or runs i d).count + many (drop (i + 1) runs)
-  many_more = at_drop_more many runs i d here
-
-  pub fair_more : (from : ℕ) → fair_run from (get_or runs i d) ≡ true → fair_from from (drop i runs) ≡ fair_from (run_end (get_or runs i d)) (drop (i + 1) runs)
-  fair_more from passes = at_drop_more (fair_from from) runs i d here ∙ rw passes
-
-  pub fair_fails : (from : ℕ) → fair_run from (get_or runs i d) ≡ false → fair_from from (drop i runs) ≡ false
-  fair_fails from fails = at_drop_more (fair_from from) runs i d here ∙ rw fails
+-- each of fair runs has a length, and ends by the last tick
+pub fair_at : (from : ℕ) (runs : List Run) → fair_from from runs ≡ true → (i : ℕ) (d : Run) → i < length runs → (1 ≤ (get_or runs i d).length) × (run_end (get_or runs i d) ≤ 9007199254740992)
+fair_at from [] fair i d h = absurd (omega arith)
+fair_at from (r ∷ rs) fair zero d h = let f = fair_parts from r rs fair in (f.long, f.within)
+fair_at from (r ∷ rs) fair (suc i) d h = fair_at (run_end r) rs (fair_parts from r rs fair).rest i d (omega arith)

@@ -4,10 +4,9 @@ use Rattle.timeline.specs.declared.segment.Segment.{Segment}
 use Rattle.timeline.specs.declared.written.Written.{Written}
 use Rattle.timeline.specs.declared.even.Even.{Even}
 use Rattle.timeline.specs.Segments.{Sound}
-use Rattle.timeline.specs.Runs.{expanded}
-use Rattle.timeline.specs.Evenly.{evenly}
+use Rattle.timeline.specs.Runs.{run_list, expanded}
 use Rattle.timeline.specs.Laws.Expands.{sound_expanded}
-use Rattle.timeline.specs.Laws.Evens.{sound_evenly}
+use Rattle.timeline.specs.Laws.Evens.{sound_run}
 
 abbrev pub of_written : Written → List Segment
 of_written t = expanded t.first t.runs.now
@@ -16,7 +15,7 @@ pub sound_written : (t : Written) → Sound (of_written t)
 sound_written t = sound_expanded t.first t.runs.now t.fair
 
 abbrev pub of_even : Even → List Segment
-of_even e = evenly e.first e.duration e.count
+of_even e = run_list e.first e.run
 
 pub sound_even : (e : Even) → Sound (of_even e)
-sound_even e = sound_evenly e.first e.duration e.count e.few e.long e.numbers e.within
+sound_even e = sound_run e.first e.run e.few e.long e.numbers e.within

@@ -1,7 +1,8 @@
 -- The even timeline: one run from 0.
-use Rattle.std.specs.Prelude.{ℕ, ◌+◌, ◌*◌, ◌/◌, ◌%◌, min, Bool, cond, ◌&&◌, List, [], nat_le}
+use Rattle.std.specs.Prelude.{ℕ, ◌+◌, ◌*◌, ◌/◌, ◌%◌, min, Bool, cond, not, ◌&&◌, List, [], nat_le}
 use Rattle.timeline.specs.declared.run.Run.{Run}
 use Rattle.timeline.specs.declared.segment.Segment.{Segment}
+use Rattle.timeline.specs.Limits.{too_many}
 use Rattle.timeline.specs.Runs.{run_list}
 
 abbrev pub even_run : ℕ → ℕ → Run
@@ -18,7 +19,7 @@ ceiling p d = p / d + min 1 (p % d)
 abbrev pub fair : ℕ → ℕ → ℕ → Bool
 fair first duration n =
     (nat_le 1 duration && nat_le duration 4294967295)
-    && (nat_le n 2147483647 && (nat_le (first + n) 4294967296 && nat_le (n * duration) 9007199254740992))
+    && (not (too_many first n) && nat_le (n * duration) 9007199254740992)
 
 -- what the even timeline of any period means
 abbrev pub even_list : ℕ → ℕ → ℕ → List Segment

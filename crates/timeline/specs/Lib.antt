@@ -1,4 +1,5 @@
 -- The words that the contracts use, and the laws that the timelines cite.
+pub mod Limits
 pub mod Refusals
 pub mod Segments
 pub mod Runs

@@ -1,6 +1,7 @@
 -- The timeline that runs write out.
-use Rattle.std.specs.Prelude.{ℕ, ◌+◌, ◌*◌, Bool, true, cond, ◌&&◌, List, [], ◌∷◌, ◌++◌, map, nat_le}
+use Rattle.std.specs.Prelude.{ℕ, ◌+◌, ◌*◌, Bool, true, cond, not, ◌&&◌, List, [], ◌∷◌, ◌++◌, map, nat_le}
 use Rattle.std.specs.List.{range_with_len}
+use Rattle.timeline.specs.Limits.{too_many}
 use Rattle.timeline.specs.declared.run.Run.{Run}
 use Rattle.timeline.specs.declared.segment.Segment.{Segment}
 
@@ -37,9 +38,9 @@ abbrev pub fair_from : ℕ → List Run → Bool
 fair_from from [] = true
 fair_from from (r ∷ rs) = fair_run from r && fair_from (run_end r) rs
 
--- runs that keep the rules: each of them, in their order, not too many segments, and a last number below 2 ^ 32
+-- runs that keep the rules: each of them, in their order, and not too many segments in all
 abbrev pub fair_runs : ℕ → List Run → Bool
-fair_runs first runs = fair_from 0 runs && (nat_le (many runs) 2147483647 && nat_le (first + many runs) 4294967296)
+fair_runs first runs = fair_from 0 runs && not (too_many first (many runs))
 
 -- what the written timeline of any runs means
 abbrev pub written_list : ℕ → List Run → List Segment

@@ -5,7 +5,6 @@ ghost use Rattle.timeline.specs.Addresses.{Addressing};
 
 use crate::cut::Cut;
 use crate::fault::{AddressFault, NoSuchPlace};
-use crate::lent::Lent;
 use crate::shift::Shift;
 use crate::timeline::{Timeline, is_under_way};
 use output::Mark;
@@ -40,11 +39,10 @@ pub trait Addressed: Timeline {
             bytes.old mark.old.used bytes.new mark.new.used result }
     {
         let place = self.ended(from).saturating_add(nth);
-        if is_under_way(self.segment(place), to) {
-            self.write_address(place, bytes, mark)
-        } else {
-            Err(AddressFault::NoSuchPlace(NoSuchPlace))
+        if !is_under_way(self.segment(place), to) {
+            return Err(NoSuchPlace.into());
         }
+        self.write_address(place, bytes, mark)
     }
 }
 
@@ -70,7 +68,7 @@ impl<T: Addressed> Addressed for Shift<T> {
         mark: &mut Mark,
     ) -> Result<(), AddressFault> {
         if to == 0 {
-            return Err(AddressFault::NoSuchPlace(NoSuchPlace));
+            return Err(NoSuchPlace.into());
         }
         let first = self.by.saturating_add(from);
         let last = self.by.saturating_add(to);
@@ -101,15 +99,15 @@ impl<T: Addressed> Addressed for Cut<T> {
         mark: &mut Mark,
     ) -> Result<(), AddressFault> {
         if from >= self.at {
-            return Err(AddressFault::NoSuchPlace(NoSuchPlace));
+            return Err(NoSuchPlace.into());
         }
         self.below
             .write_address_within(from, to.min(self.at), nth, bytes, mark)
     }
 }
 
-impl<'a, T: Addressed> Addressed for Lent<'a, T> {
-    ghost address = { λ s place. T.Addressed.address s.below.now place };
+impl<'a, T: Addressed> Addressed for &'a T {
+    ghost address = { λ s place. T.Addressed.address s.now place };
 
     fn write_address(
         &self,
@@ -117,7 +115,7 @@ impl<'a, T: Addressed> Addressed for Lent<'a, T> {
         bytes: &mut [u8],
         mark: &mut Mark,
     ) -> Result<(), AddressFault> {
-        self.below.write_address(place, bytes, mark)
+        T::write_address(self, place, bytes, mark)
     }
 
     fn write_address_within(
@@ -128,6 +126,6 @@ impl<'a, T: Addressed> Addressed for Lent<'a, T> {
         bytes: &mut [u8],
         mark: &mut Mark,
     ) -> Result<(), AddressFault> {
-        self.below.write_address_within(from, to, nth, bytes, mark)
+        T::write_address_within(self, from, to, nth, bytes, mark)
     }
 }

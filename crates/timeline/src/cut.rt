@@ -1,7 +1,6 @@
 // A timeline ended at a tick.
-ghost use Rattle.std.specs.Prelude.{◌≡◌, nat_lt};
 ghost use Rattle.timeline.specs.Laws.Cuts.{sound_cut};
-ghost use Rattle.timeline.specs.Layers.{shortened, cut_off, mapped, only};
+ghost use Rattle.timeline.specs.Layers.{cut_off};
 
 use crate::fault::NoSuchPlace;
 use crate::segment::Segment;
@@ -14,26 +13,6 @@ pub struct Cut<T> {
     pub at: u64,
 }
 
-// What is told, ended at a tick, if it starts before.
-fn ended_at(told: Result<Segment, NoSuchPlace>, at: u64) -> Result<Segment, NoSuchPlace>
-    ensures { result ≡ mapped (shortened at) (only (λ s. nat_lt s.start at) told) }
-{
-    match told {
-        Ok(segment) => {
-            if segment.start < at {
-                Ok(Segment {
-                    number: segment.number,
-                    start: segment.start,
-                    length: segment.length.min(at - segment.start),
-                })
-            } else {
-                Err(NoSuchPlace)
-            }
-        }
-        Err(fault) => Err(fault),
-    }
-}
-
 impl<T: Timeline> Timeline for Cut<T> {
     ghost segments = { λ s. cut_off s.at (T.Timeline.segments s.below) };
 
@@ -44,7 +23,9 @@ impl<T: Timeline> Timeline for Cut<T> {
     }
 
     fn segment(&self, place: u32) -> Result<Segment, NoSuchPlace> {
-        ended_at(self.below.segment(place), self.at)
+        self.below
+            .segment(place)
+            .and_then(|segment| segment.cut_at(self.at))
     }
 
     fn ended(&self, tick: u64) -> u32 {
@@ -65,7 +46,9 @@ impl<T: Timeline> Timeline for Cut<T> {
 
     fn nth_after(&self, from: u64, nth: u32) -> Result<Segment, NoSuchPlace> {
         if from < self.at {
-            ended_at(self.below.nth_after(from, nth), self.at)
+            self.below
+                .nth_after(from, nth)
+                .and_then(|segment| segment.cut_at(self.at))
         } else {
             Err(NoSuchPlace)
         }

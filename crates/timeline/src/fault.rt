@@ -35,6 +35,7 @@ impl AddressFault {
     }
 }
 
+// By hand, so that a clause can name what `?` and `into` make.
 impl From<NoSuchPlace> for AddressFault {
     ghost from_gives = { λ e r. r ≡ missing e };
 
@@ -43,6 +44,7 @@ impl From<NoSuchPlace> for AddressFault {
     }
 }
 
+// By hand, so that a clause can name what `?` makes.
 impl From<NoRoom> for AddressFault {
     ghost from_gives = { λ e r. r ≡ full e };
 

@@ -1,36 +1,30 @@
-// A timeline that is lent.
+// A timeline that is lent: what stands behind a reference, for a layer over one that the caller keeps.
 use crate::fault::NoSuchPlace;
 use crate::segment::Segment;
 use crate::timeline::Timeline;
 
-// The timeline behind a reference, for a layer over one that the caller keeps.
-#[derive(Clone, Copy)]
-pub struct Lent<'a, T> {
-    pub below: &'a T,
-}
+impl<'a, T: Timeline> Timeline for &'a T {
+    ghost segments = { λ s. T.Timeline.segments s.now };
 
-impl<'a, T: Timeline> Timeline for Lent<'a, T> {
-    ghost segments = { λ s. T.Timeline.segments s.below.now };
-
-    ghost sound = { λ s. T.Timeline.sound s.below.now };
+    ghost sound = { λ s. T.Timeline.sound s.now };
 
     fn count(&self) -> u32 {
-        self.below.count()
+        T::count(self)
     }
 
     fn segment(&self, place: u32) -> Result<Segment, NoSuchPlace> {
-        self.below.segment(place)
+        T::segment(self, place)
     }
 
     fn ended(&self, tick: u64) -> u32 {
-        self.below.ended(tick)
+        T::ended(self, tick)
     }
 
     fn within(&self, from: u64, to: u64) -> u32 {
-        self.below.within(from, to)
+        T::within(self, from, to)
     }
 
     fn nth_after(&self, from: u64, nth: u32) -> Result<Segment, NoSuchPlace> {
-        self.below.nth_after(from, nth)
+        T::nth_after(self, from, nth)
     }
 }

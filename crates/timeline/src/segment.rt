@@ -1,11 +1,8 @@
-// A segment of a timeline, and the limits of every timeline.
+// A segment of a timeline.
+ghost use Rattle.std.specs.Prelude.{◌≡◌, Ok, nat_lt};
+ghost use Rattle.timeline.specs.Layers.{earlier, shortened, mapped, only};
 
-pub(crate) const MOST_SEGMENTS: u64 = 2_147_483_647;
-
-pub(crate) const LATEST_END: u64 = 9_007_199_254_740_992;
-
-// Every number is below this.
-pub(crate) const NUMBERS: u64 = 4_294_967_296;
+use crate::fault::NoSuchPlace;
 
 // A part of the time, in ticks: from its start up to before its end, which is start + length.
 #[derive(Clone, Copy, Debug, PartialEq, Eq)]
@@ -13,4 +10,30 @@ pub struct Segment {
     pub number: u32,
     pub start: u64,
     pub length: u64,
+}
+
+impl Segment {
+    // The segment with `by` taken from its start and its end, neither below 0.
+    pub(crate) fn earlier(self, by: u64) -> Segment
+        ensures { result ≡ earlier by self }
+    {
+        Segment {
+            start: self.start.saturating_sub(by),
+            length: self.length.saturating_sub(by.saturating_sub(self.start)),
+            ..self
+        }
+    }
+
+    // The segment ended at the tick, if it starts before.
+    pub(crate) fn cut_at(self, at: u64) -> Result<Segment, NoSuchPlace>
+        ensures { result ≡ mapped (shortened at) (only (λ s. nat_lt s.start at) (Ok self)) }
+    {
+        if self.start >= at {
+            return Err(NoSuchPlace);
+        }
+        Ok(Segment {
+            length: self.length.min(at - self.start),
+            ..self
+        })
+    }
 }

@@ -1,7 +1,6 @@
 // A timeline moved to begin earlier.
-ghost use Rattle.std.specs.Prelude.{◌≡◌};
 ghost use Rattle.timeline.specs.Laws.Shifts.{sound_shifted};
-ghost use Rattle.timeline.specs.Layers.{earlier, shifted, mapped};
+ghost use Rattle.timeline.specs.Layers.{shifted};
 
 use crate::fault::NoSuchPlace;
 use crate::segment::Segment;
@@ -14,22 +13,6 @@ pub struct Shift<T> {
     pub by: u64,
 }
 
-// What is told, earlier by a number of ticks.
-fn sooner(told: Result<Segment, NoSuchPlace>, by: u64) -> Result<Segment, NoSuchPlace>
-    ensures { result ≡ mapped (earlier by) told }
-{
-    match told {
-        Ok(segment) => Ok(Segment {
-            number: segment.number,
-            start: segment.start.saturating_sub(by),
-            length: segment
-                .length
-                .saturating_sub(by.saturating_sub(segment.start)),
-        }),
-        Err(fault) => Err(fault),
-    }
-}
-
 impl<T: Timeline> Timeline for Shift<T> {
     ghost segments = { λ s. shifted s.by (T.Timeline.segments s.below) };
 
@@ -40,7 +23,9 @@ impl<T: Timeline> Timeline for Shift<T> {
     }
 
     fn segment(&self, place: u32) -> Result<Segment, NoSuchPlace> {
-        sooner(self.below.nth_after(self.by, place), self.by)
+        self.below
+            .nth_after(self.by, place)
+            .map(|segment| segment.earlier(self.by))
     }
 
     fn ended(&self, tick: u64) -> u32 {
@@ -59,9 +44,8 @@ impl<T: Timeline> Timeline for Shift<T> {
     }
 
     fn nth_after(&self, from: u64, nth: u32) -> Result<Segment, NoSuchPlace> {
-        sooner(
-            self.below.nth_after(self.by.saturating_add(from), nth),
-            self.by,
-        )
+        self.below
+            .nth_after(self.by.saturating_add(from), nth)
+            .map(|segment| segment.earlier(self.by))
     }
 }

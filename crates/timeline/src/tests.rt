@@ -3,7 +3,6 @@ ghost use Rattle.std.specs.Prelude.{◌+◌, ◌%◌, [], ◌∷◌};
 
 use super::*;
 use output::{Mark, put};
-use std::test::Fail;
 
 // The address of a place is its last decimal digit.
 impl Addressed for Even {
@@ -16,13 +15,10 @@ impl Addressed for Even {
         mark: &mut Mark,
     ) -> Result<(), AddressFault> {
         if place >= self.count() {
-            return Err(AddressFault::NoSuchPlace(NoSuchPlace));
+            return Err(NoSuchPlace.into());
         }
         let digit = [48 + (place % 10) as u8];
-        match put(bytes, mark, &digit) {
-            Ok(()) => Ok(()),
-            Err(fault) => Err(AddressFault::NoRoom(fault)),
-        }
+        Ok(put(bytes, mark, &digit)?)
     }
 }
 
@@ -43,15 +39,12 @@ fn run(start: u64, length: u64, count: u32) -> Run {
 }
 
 fn tells<T: Timeline>(timeline: &T, list: &[Segment]) -> bool {
-    let mut place = 0u32;
-    for segment in list {
-        if timeline.segment(place) != Ok(*segment) {
-            return false;
-        }
-        place = place.saturating_add(1);
-    }
-    timeline.count() == place
-        && timeline.segment(place) == Err(NoSuchPlace)
+    let count = timeline.count();
+    (0..count)
+        .zip(list)
+        .all(|(place, segment)| timeline.segment(place) == Ok(*segment))
+        && list.len() == count as usize
+        && timeline.segment(count) == Err(NoSuchPlace)
         && timeline.segment(u32::MAX) == Err(NoSuchPlace)
 }
 
@@ -140,8 +133,10 @@ fn shifts(rt: HostRuntime) {
 fn piles(rt: HostRuntime) {
     let runs = [run(0, 20, 2), run(45, 20, 1)];
     let bottom = Written::new(5, &runs);
-    let lent = Lent { below: &bottom };
-    let late = Shift { below: lent, by: 5 };
+    let late = Shift {
+        below: &bottom,
+        by: 5,
+    };
     let shown = Cut {
         below: late,
         at: 50,
@@ -208,7 +203,7 @@ fn bottoms(rt: HostRuntime) {
 }
 
 #[test]
-fn addresses(rt: HostRuntime) -> Result<(), Fail> {
+fn addresses(rt: HostRuntime) {
     let late = Shift {
         below: Even::new(0, 10, 100),
         by: 25,
@@ -230,14 +225,6 @@ fn addresses(rt: HostRuntime) -> Result<(), Fail> {
     assert_eq!(rt; mark.used, 2);
     assert_eq!(rt; AddressFault::NoSuchPlace(NoSuchPlace).number(), 46);
     mark.used = 3;
-    match shown.write_address(1, &mut bytes, &mut mark) {
-        Ok(()) => {
-            assert!(rt; false);
-            Ok(())
-        },
-        Err(fault) => {
-            assert_eq!(rt; fault.number(), 45);
-            Ok(())
-        },
-    }
+    let answer = shown.write_address(1, &mut bytes, &mut mark);
+    assert_eq!(rt; answer.map_err(AddressFault::number), Err(45));
 }

@@ -10,20 +10,14 @@ use crate::segment::Segment;
 fn is_over(told: Result<Segment, NoSuchPlace>, tick: u64) -> bool
     ensures { result ≡ over_by tick told }
 {
-    match told {
-        Ok(segment) => segment.start <= tick && segment.length <= tick - segment.start,
-        Err(_) => false,
-    }
+    told.is_ok_and(|segment| segment.start <= tick && segment.length <= tick - segment.start)
 }
 
 // Whether a segment is told that starts before the tick.
 pub(crate) fn is_under_way(told: Result<Segment, NoSuchPlace>, tick: u64) -> bool
     ensures { result ≡ under_way tick told }
 {
-    match told {
-        Ok(segment) => segment.start < tick,
-        Err(_) => false,
-    }
+    told.is_ok_and(|segment| segment.start < tick)
 }
 
 // A list of segments. A place is a position in the list, from 0. Telling leaves the timeline as it is.
@@ -43,6 +37,7 @@ pub trait Timeline {
     fn ended(&self, tick: u64) -> u32
         ensures { result ≡ ended_by (segments self.now) tick }
     {
+        // By hand, since the library searches slices alone.
         let mut low = 0;
         let mut high = self.count();
         while low < high {

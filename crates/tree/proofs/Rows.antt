@@ -1,7 +1,9 @@
 -- The steps of a walk over the rows that pass a test.
-use Rattle.std.proofs.Common.{◌≡◌, ℕ, suc, ◌+◌, ◌-◌, ◌<◌, ◌≤◌, Bool, true, false, cond, [], ◌∷◌, Some, None, filter, refl, ap, ◌∙◌, arith}
+use Rattle.std.proofs.Common.{◌≡◌, ℕ, suc, ◌+◌, ◌-◌, ◌<◌, ◌≤◌, Bool, true, false, cond, not, [], ◌∷◌, length, filter, refl, ap, ◌∙◌, arith}
 use Rattle.std.proofs.lemmas.Bool.{cond-true, cond-false}
-use Rattle.std.specs.List.{range_with_len, slice_get}
+use Rattle.std.proofs.lemmas.List.Filters.{length-filter_both}
+use Rattle.std.proofs.lemmas.List.FromFn.{length-range_with_len}
+use Rattle.std.specs.List.{range_with_len}
 use Rattle.tree.specs.Questions.{rows_from}
 
 module _ (p : ℕ → Bool) (n k : ℕ) where
@@ -20,32 +22,8 @@ module _ (p : ℕ → Bool) (n k : ℕ) where
   pub rows_end : n ≤ k → rows_from p n k ≡ []
   rows_end h = let e : n - k ≡ 0 = omega arith in ap (λ i. filter p (range_with_len k i)) e
 
--- a walk to the row at a position has come to the row k, behind as many rows that pass as `before` says
-pub record Counts (p : ℕ → Bool) (n position before k : ℕ) : Type 0 where
-  pub short : before ≤ position
-  pub few : before ≤ k
-  pub same : slice_get (rows_from p n 0) position ≡ slice_get (rows_from p n k) (position - before)
-
-module _ (p : ℕ → Bool) (n position before k : ℕ) (so : Counts p n position before k) where
-  pub counts_here : k < n → true ≡ p k → before ≡ position → slice_get (rows_from p n 0) position ≡ Some k
-  counts_here h t e = let z : position - before ≡ 0 = omega arith in so.same ∙ rw (z, rows_here p n k h t) refl
-
-  pub counts_on : k < n → true ≡ p k → before < position → Counts p n position (before + 1) (k + 1)
-  counts_on h t l = record {
-    short = omega arith;
-    few = omega (arith, so.few);
-    same = let s : position - before ≡ suc (position - (before + 1)) = omega arith in so.same ∙ rw (s, rows_here p n k h t) refl;
-  }
-
-  pub counts_more : k < n → false ≡ p k → Counts p n position before (k + 1)
-  counts_more h f = record {
-    short = so.short;
-    few = omega (arith, so.few);
-    same = so.same ∙ ap (λ rows. slice_get rows (position - before)) (rows_more p n k h f);
-  }
-
-  pub counts_end : n ≤ k → slice_get (rows_from p n 0) position ≡ None
-  counts_end h = so.same ∙ ap (λ rows. slice_get rows (position - before)) (rows_end p n k h)
-
-pub counts_none : (p : ℕ → Bool) (n position : ℕ) → Counts p n position 0 0
-counts_none p n position = record { short = omega arith; few = omega arith; same = let z : position - 0 ≡ position = omega arith in rw z refl }
+  -- they are no more than the rows from k on
+  pub rows_few : length (rows_from p n k) ≤ n - k
+  rows_few =
+      let rows = range_with_len k (n - k) in
+      omega (arith, length-filter_both p (λ x. not (p x)) (λ _. refl) rows, length-range_with_len k (n - k))

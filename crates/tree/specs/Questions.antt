@@ -2,7 +2,7 @@
 use Rattle.std.specs.Prelude.{ℕ, ◌+◌, ◌-◌, Bool, cond, ◌&&◌, List, [], ◌∷◌, length, drop, Some, None, filter, Option, ◌==◌, nat_lt, slice_index_or}
 use Rattle.std.specs.List.{range_with_len}
 use Rattle.std.specs.Str.{bytes_eq}
-use Rattle.tables.specs.Parts.{part}
+use Rattle.tables.specs.Parts.{part, is_of}
 use Rattle.tables.specs.Zero.{no_element}
 use Rattle.tables.specs.declared.manifest.Attribute.{Attribute}
 use Rattle.tables.specs.declared.manifest.Element.{Element}
@@ -15,14 +15,10 @@ name_at m es e = part m (slice_index_or es e no_element).name
 abbrev pub text_at : List ℕ → List Element → ℕ → List ℕ
 text_at m es e = part m (slice_index_or es e no_element).text
 
--- whether a is an attribute of the element in the row e with the name n
-abbrev pub belongs : List ℕ → ℕ → List ℕ → Attribute → Bool
-belongs m e n a = a.element == e && bytes_eq (part m a.name) n
-
 -- the value of the attribute n of the element in the row e: the first of equal ones counts
 abbrev pub value_of : List ℕ → List Attribute → ℕ → List ℕ → Option (List ℕ)
 value_of m [] e n = None
-value_of m (a ∷ rest) e n = cond (belongs m e n a) (Some (part m a.value)) (value_of m rest e n)
+value_of m (a ∷ rest) e n = cond (is_of m e n a) (Some (part m a.value)) (value_of m rest e n)
 
 -- whether the row x is one of a child of the row e with the name n
 abbrev pub is_child : List ℕ → ℕ → List ℕ → Element → Bool

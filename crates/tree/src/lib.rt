@@ -4,13 +4,17 @@
 ghost use Rattle.std.specs.Prelude.{◌≡◌};
 ghost use Rattle.std.specs.Option.{option_map};
 ghost use Rattle.std.specs.List.{slice_get};
-ghost use Rattle.tree.specs.Laws.{FirstValue, FirstChild};
-ghost use Rattle.tree.specs.Questions.{name_at, text_at, belongs, value_of, is_child, is_child_at, child_of, children_of};
+ghost use Rattle.tables.specs.Rows.{held};
+ghost use Rattle.tree.specs.Questions.{is_child};
+ghost use Rattle.tree.specs.Trees.{name_in, text_in, value_in, child_in, is_child_in, children_in, FirstValueIn, FirstChildIn};
 
-use tables::{Attribute, Element, same};
+mod children;
 
-// A manifest and its rows. A part that reaches past the manifest is empty, and a row that is not
-// there has no name, no attributes and no children.
+pub use children::Children;
+use tables::{Attribute, Element, ManifestRows, same};
+
+// A manifest and its rows. A part that reaches past the manifest is empty. A row that is not there
+// has no name, no text and no children; its attributes are those that name it, whether it is there or not.
 #[derive(Clone, Copy)]
 pub struct Tree<'m, 'r> {
     pub manifest: &'m [u8],
@@ -19,92 +23,75 @@ pub struct Tree<'m, 'r> {
 }
 
 impl<'m, 'r> Tree<'m, 'r> {
+    // The manifest with the rows that it was read into.
+    pub fn of(manifest: &'m [u8], rows: &'r ManifestRows) -> Tree<'m, 'r>
+        ensures manifest { result.manifest.now ≡ manifest.now }
+        ensures elements { result.elements.now ≡ held rows.now.elements }
+        ensures attributes { result.attributes.now ≡ held rows.now.attributes }
+    {
+        Tree {
+            manifest,
+            elements: rows.elements.rows(),
+            attributes: rows.attributes.rows(),
+        }
+    }
+
     // The name of the element in the row.
     pub fn name(&self, row: usize) -> &'m [u8]
-        ensures { result.now ≡ name_at self.now.manifest.now self.now.elements.now row }
+        ensures { result.now ≡ name_in self.now row }
     {
-        let elements = self.elements;
-        if row >= elements.len() {
-            return &[];
-        }
-        elements[row].name.part(self.manifest)
+        self.elements
+            .get(row)
+            .map_or(&[], |element| element.name.part(self.manifest))
     }
 
     // The text of the element in the row.
     pub fn text(&self, row: usize) -> &'m [u8]
-        ensures { result.now ≡ text_at self.now.manifest.now self.now.elements.now row }
+        ensures { result.now ≡ text_in self.now row }
     {
-        let elements = self.elements;
-        if row >= elements.len() {
-            return &[];
-        }
-        elements[row].text.part(self.manifest)
+        self.elements
+            .get(row)
+            .map_or(&[], |element| element.text.part(self.manifest))
     }
 
     // The value of the element's attribute of that name, the first of equal ones.
     pub fn attribute(&self, row: usize, name: &[u8]) -> Option<&'m [u8]>
-        ensures value { option_map (λ x. x.now) result ≡ value_of self.now.manifest.now self.now.attributes.now row name.now }
-        ensures first { FirstValue self.now.manifest.now row name.now self.now.attributes.now (option_map (λ x. x.now) result) }
+        ensures value { option_map (λ x. x.now) result ≡ value_in self.now row name.now }
+        ensures first { FirstValueIn self.now row name.now (option_map (λ x. x.now) result) }
     {
         let manifest = self.manifest;
-        'rows: for attribute in self.attributes {
-            if attribute_is(manifest, attribute, row, name) {
-                return Some(attribute.value.part(manifest));
-            }
-        }
-        None
+        self.attributes
+            .iter()
+            .find(|attribute| attribute.is_of(manifest, row, name))
+            .map(|attribute| attribute.value.part(manifest))
     }
 
     // The row of the element's first child of that name.
     pub fn child(&self, row: usize, name: &[u8]) -> Option<usize>
-        ensures row { result ≡ child_of self.now.manifest.now self.now.elements.now row name.now }
-        ensures first { FirstChild self.now.manifest.now row name.now self.now.elements.now result }
+        ensures row { result ≡ child_in self.now row name.now }
+        ensures first { FirstChildIn self.now row name.now result }
     {
-        let elements = self.elements;
-        if row >= elements.len() {
-            return None;
-        }
-        'rows: for later in row + 1..elements.len() {
-            if child_is(self.manifest, &elements[later], row, name) {
-                return Some(later);
-            }
-        }
-        None
+        self.children(row, name).next()
     }
 
     // Whether the row is that of a child of the element in the row `parent`, with that name.
     pub fn is_child(&self, row: usize, parent: usize, name: &[u8]) -> bool
-        ensures { result ≡ is_child_at self.now.manifest.now self.now.elements.now parent name.now row }
+        ensures { result ≡ is_child_in self.now parent name.now row }
     {
-        let elements = self.elements;
-        if row >= elements.len() {
-            return false;
-        }
-        parent < row && child_is(self.manifest, &elements[row], parent, name)
+        let manifest = self.manifest;
+        parent < row
+            && self
+                .elements
+                .get(row)
+                .is_some_and(|element| child_is(manifest, element, parent, name))
     }
 
     // The row of the element's child of that name at a position, from 0.
     pub fn nth_child(&self, row: usize, name: &[u8], position: usize) -> Option<usize>
-        ensures { result ≡ slice_get (children_of self.now.manifest.now self.now.elements.now row name.now) position }
+        ensures { result ≡ slice_get (children_in self.now row name.now) position }
     {
-        let mut before = 0;
-        'rows: for later in 0..self.elements.len() {
-            if self.is_child(later, row, name) {
-                if before == position {
-                    return Some(later);
-                }
-                before += 1;
-            }
-        }
-        None
+        self.children(row, name).nth(position)
     }
-}
-
-// Whether it is an attribute of the element in the row, with that name.
-fn attribute_is(manifest: &[u8], attribute: &Attribute, row: usize, name: &[u8]) -> bool
-    ensures { result ≡ belongs manifest.now row name.now attribute.now }
-{
-    attribute.element == row && same(attribute.name.part(manifest), name)
 }
 
 // Whether it is a child of the element in the row, with that name.

@@ -1,85 +1,75 @@
 -- Every duration is read.
-use Rattle.std.proofs.Common.{◌≡◌, ℕ, suc, ◌+◌, ◌-◌, ◌*◌, ◌^◌, ◌<◌, ◌≤◌, true, false, cond, ◌&&◌, eqb, ltb, leb, List, [], ◌∷◌, ◌++◌, length, get_or, take, drop, Ok, Err, sym, refl, ap, ◌∙◌, subst, append_assoc, one-add, arith, length-append, lt-ltb, eq-eqb, ne_eqb, le-leb}
+use Rattle.std.proofs.Common.{◌≡◌, ℕ, suc, ◌+◌, ◌-◌, ◌*◌, ◌^◌, ◌<◌, true, false, List, [], ◌∷◌, ◌++◌, length, get_or, take, drop, Ok, sym, refl, ap, ◌∙◌, subst, append_assoc, arith, length-append}
 use Rattle.std.specs.List.{prefix_len}
 use Rattle.std.proofs.lemmas.List.{take_at, drop_at, get_or_at}
 use Rattle.std.proofs.lemmas.Bool.Decides.{nat_tests}
-use Rattle.values.specs.declared.ValueFault.TheVariants.{NoDuration}
 use Rattle.values.specs.Whole.{digit, digits, decimal}
-use Rattle.values.specs.Fields.{front, has_field, field_len, field_num, behind, seconds_len, seconds_num, seconds_millis, minutes_on, seconds_on, total, used}
+use Rattle.values.specs.Fields.{front, field_len, field_num, behind, seconds_len, seconds_num, seconds_millis, minutes_on, seconds_on, total, used}
 use Rattle.values.specs.Duration.{Field, absent, given, Seconds, whole, pointed, Digits, SoundField, SoundSeconds, field_text, seconds_text, field_value, seconds_value, Duration, duration_of}
-use Rattle.values.proofs.Choosing.{and_false}
-use Rattle.values.proofs.Numbers.{digits_head}
 use Rattle.values.proofs.Ways.{has_decimals_lem, by_whole, by_point}
-
-digit_true : (b : ℕ) → 48 ≤ b → b ≤ 57 → digit b ≡ true
-digit_true b h k = grind (arith, nat_tests)
 
 -- digits, and then another byte
 lead : (ds rest : List ℕ) (u : ℕ) → digits ds ≡ true → digit u ≡ false → prefix_len digit (ds ++ (u ∷ rest)) ≡ length ds
-lead [] rest u h k = ap (λ t. cond t (1 + prefix_len digit rest) 0) k
-lead (d ∷ ds) rest u h k =
-    let f = digits_head d ds h in
-    ap (λ t. cond t (1 + prefix_len digit (ds ++ (u ∷ rest))) 0) (digit_true d f.0 f.1) ∙ ap (λ n. 1 + n) (lead ds rest u f.2 k) ∙ one-add (length ds)
+lead [] rest u h k = grind (arith, nat_tests)
+lead (d ∷ ds) rest u h k = let ih = lead ds rest u in grind (arith, nat_tests)
 
 module _ (ds rest : List ℕ) (u : ℕ) (h : digits ds ≡ true) (k : digit u ≡ false) where
   there : get_or (ds ++ (u ∷ rest)) (prefix_len digit (ds ++ (u ∷ rest))) 0 ≡ u
   there = ap (λ n. get_or (ds ++ (u ∷ rest)) n 0) (lead ds rest u h k) ∙ get_or_at ds u rest 0 (length ds) refl
 
-  has : 0 < length ds → has_field u (ds ++ (u ∷ rest)) ≡ true
-  has p = ap (λ t. t && eqb (get_or (ds ++ (u ∷ rest)) (prefix_len digit (ds ++ (u ∷ rest))) 0) u) (lt-ltb 0 (prefix_len digit (ds ++ (u ∷ rest))) (omega (arith, lead ds rest u h k))) ∙ eq-eqb _ u there
-
-  has_not : (w : ℕ) → (u ≡ w → ⊥) → has_field w (ds ++ (u ∷ rest)) ≡ false
-  has_not w ne = and_false (ltb 0 (prefix_len digit (ds ++ (u ∷ rest)))) _ (ne_eqb _ w (λ e. ne (sym there ∙ e)))
-
   len_not : (w : ℕ) → (u ≡ w → ⊥) → field_len w (ds ++ (u ∷ rest)) ≡ 0
-  len_not w ne = ap (λ t. cond t (prefix_len digit (ds ++ (u ∷ rest)) + 1) 0) (has_not w ne)
+  len_not w ne = let t = there in grind (arith, nat_tests)
 
   num_not : (w : ℕ) → (u ≡ w → ⊥) → field_num w (ds ++ (u ∷ rest)) ≡ 0
-  num_not w ne = ap (λ t. cond t (decimal (front (ds ++ (u ∷ rest)))) 0) (has_not w ne)
+  num_not w ne = let t = there in grind (arith, nat_tests)
 
   len : 0 < length ds → field_len u (ds ++ (u ∷ rest)) ≡ length ds + 1
-  len p = ap (λ t. cond t (prefix_len digit (ds ++ (u ∷ rest)) + 1) 0) (has p) ∙ ap (λ n. n + 1) (lead ds rest u h k)
+  len p = let t = there in let n = lead ds rest u h k in grind (arith, nat_tests)
 
   num : 0 < length ds → field_num u (ds ++ (u ∷ rest)) ≡ decimal ds
-  num p = ap (λ t. cond t (decimal (front (ds ++ (u ∷ rest)))) 0) (has p) ∙ ap (λ n. decimal (take n (ds ++ (u ∷ rest)))) (lead ds rest u h k) ∙ ap (decimal) (take_at ds (u ∷ rest) (length ds) refl)
+  num p =
+      let t = there in
+      let n = lead ds rest u h k in
+      let e : field_num u (ds ++ (u ∷ rest)) ≡ decimal (front (ds ++ (u ∷ rest))) = grind (arith, nat_tests) in
+      e ∙ ap (λ n. decimal (take n (ds ++ (u ∷ rest)))) n ∙ ap decimal (take_at ds (u ∷ rest) (length ds) refl)
 
   on : 0 < length ds → drop (field_len u (ds ++ (u ∷ rest))) (ds ++ (u ∷ rest)) ≡ rest
   on p = ap (λ n. drop n (ds ++ (u ∷ rest))) (len p) ∙ ap (λ l. drop (length ds + 1) l) (sym (append_assoc ds (u ∷ []) rest)) ∙ drop_at (ds ++ (u ∷ [])) rest (length ds + 1) (length-append ds (u ∷ []))
 
 -- what a field takes of the text that begins with it
-pub record Takes (u : ℕ) (f : Field) (xs rest : List ℕ) : Type 0 where
+pub record TakesField (u : ℕ) (f : Field) (xs rest : List ℕ) : Type 0 where
   pub long : field_len u xs ≡ length (field_text u f)
   pub value : field_num u xs ≡ field_value f
   pub on : drop (field_len u xs) xs ≡ rest
 
-takes_given : (u : ℕ) (ds rest : List ℕ) → digit u ≡ false → Digits ds → Takes u (given ds) ((ds ++ (u ∷ [])) ++ rest) rest
+takes_given : (u : ℕ) (ds rest : List ℕ) → digit u ≡ false → Digits ds → TakesField u (given ds) ((ds ++ (u ∷ [])) ++ rest) rest
 takes_given u ds rest k h =
-    subst (λ l. Takes u (given ds) l rest) (sym (append_assoc ds (u ∷ []) rest)) (record {
+    subst (λ l. TakesField u (given ds) l rest) (sym (append_assoc ds (u ∷ []) rest)) (record {
       long = len ds rest u h.0 k h.1 ∙ sym (length-append ds (u ∷ []));
       value = num ds rest u h.0 k h.1;
       on = on ds rest u h.0 k h.1;
     })
 
-takes_none : (u w : ℕ) (ds rest : List ℕ) → digits ds ≡ true → digit w ≡ false → (w ≡ u → ⊥) → Takes u absent (ds ++ (w ∷ rest)) (ds ++ (w ∷ rest))
+takes_none : (u w : ℕ) (ds rest : List ℕ) → digits ds ≡ true → digit w ≡ false → (w ≡ u → ⊥) → TakesField u absent (ds ++ (w ∷ rest)) (ds ++ (w ∷ rest))
 takes_none u w ds rest h k ne = record {
   long = len_not ds rest w h k u ne;
   value = num_not ds rest w h k u ne;
   on = ap (λ n. drop n (ds ++ (w ∷ rest))) (len_not ds rest w h k u ne);
 }
 
-takes_nil : (u : ℕ) → Takes u absent [] []
+takes_nil : (u : ℕ) → TakesField u absent [] []
 takes_nil u = record { long = refl; value = refl; on = refl }
 
 -- a text whose first byte after its digits is one of these
-minutes_take : (f : Field) (g : Seconds) → SoundField f → SoundSeconds g → Takes 77 f (field_text 77 f ++ seconds_text g) (seconds_text g)
+minutes_take : (f : Field) (g : Seconds) → SoundField f → SoundSeconds g → TakesField 77 f (field_text 77 f ++ seconds_text g) (seconds_text g)
 minutes_take (given ds) g h k = takes_given 77 ds (seconds_text g) refl h
 minutes_take absent absent h k = takes_nil 77
 minutes_take absent (whole ds) h k = takes_none 77 83 ds [] k.0 refl (λ e. omega arith)
 minutes_take absent (pointed ds fs) h k = takes_none 77 46 ds (fs ++ (83 ∷ [])) k.0.0 refl (λ e. omega arith)
 
-hours_take : (e f : Field) (g : Seconds) → SoundField e → SoundField f → SoundSeconds g → Takes 72 e (field_text 72 e ++ (field_text 77 f ++ seconds_text g)) (field_text 77 f ++ seconds_text g)
+hours_take : (e f : Field) (g : Seconds) → SoundField e → SoundField f → SoundSeconds g → TakesField 72 e (field_text 72 e ++ (field_text 77 f ++ seconds_text g)) (field_text 77 f ++ seconds_text g)
 hours_take (given ds) f g h k l = takes_given 72 ds (field_text 77 f ++ seconds_text g) refl h
-hours_take absent (given ds) g h k l = subst (λ x. Takes 72 absent x x) (sym (append_assoc ds (77 ∷ []) (seconds_text g))) (takes_none 72 77 ds (seconds_text g) k.0 refl (λ e. omega arith))
+hours_take absent (given ds) g h k l = subst (λ x. TakesField 72 absent x x) (sym (append_assoc ds (77 ∷ []) (seconds_text g))) (takes_none 72 77 ds (seconds_text g) k.0 refl (λ e. omega arith))
 hours_take absent absent absent h k l = takes_nil 72
 hours_take absent absent (whole ds) h k l = takes_none 72 83 ds [] l.0 refl (λ e. omega arith)
 hours_take absent absent (pointed ds fs) h k l = takes_none 72 46 ds (fs ++ (83 ∷ [])) l.0.0 refl (λ e. omega arith)
@@ -132,11 +122,4 @@ complete s ms d =
     let t : total xs ≡ ms = omega (arith, hh.value, d.value) in
     let n : 2 + used xs ≡ suc (suc (length xs)) = omega (arith, hh.long, length-append (field_text 72 d.hours) (field_text 77 d.minutes ++ seconds_text d.seconds), length-append (field_text 77 d.minutes) (seconds_text d.seconds)) in
     let some : 2 < suc (suc (length xs)) = subst (λ l. 2 < length l) d.written d.some in
-    let a : (ltb 2 (suc (suc (length xs))) && true) ≡ true = ap (λ b. b && true) (lt-ltb 2 (suc (suc (length xs))) some) in
-    let b : eqb (2 + used xs) (suc (suc (length xs))) ≡ true = eq-eqb (2 + used xs) (suc (suc (length xs))) n in
-    let c : leb (total xs) 100000000000 ≡ true = le-leb (total xs) 100000000000 (omega (arith, d.small)) in
-    ap duration_of d.written
-    ∙ ap (λ b. cond (b && (eqb (2 + used xs) (suc (suc (length xs))) && leb (total xs) 100000000000)) (Ok (total xs)) (Err NoDuration)) a
-    ∙ ap (λ x. cond (x && leb (total xs) 100000000000) (Ok (total xs)) (Err NoDuration)) b
-    ∙ ap (λ x. cond x (Ok (total xs)) (Err NoDuration)) c
-    ∙ ap (λ x. Ok x) t
+    ap duration_of d.written ∙ grind (arith, nat_tests)

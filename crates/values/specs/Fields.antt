@@ -1,6 +1,6 @@
 -- The fields of a duration, as they are read from the front of a text.
 -- The bytes H, M, S and the point are 72, 77, 83 and 46.
-use Rattle.std.specs.Prelude.{ℕ, ◌+◌, ◌-◌, ◌*◌, ◌^◌, Bool, cond, ◌&&◌, List, take, drop, ◌==◌, nat_le, nat_lt, slice_index}
+use Rattle.std.specs.Prelude.{◌≡◌, ◌<◌, min, ℕ, ◌+◌, ◌-◌, ◌*◌, ◌^◌, Bool, cond, ◌&&◌, List, length, take, drop, ◌==◌, nat_le, nat_lt, slice_index}
 use Rattle.std.specs.List.{prefix_len}
 use Rattle.values.specs.Whole.{digit, decimal}
 
@@ -19,6 +19,14 @@ field_len unit xs = cond (has_field unit xs) (prefix_len digit xs + 1) 0
 -- the number before the unit, 0 where there is none
 abbrev pub field_num : ℕ → List ℕ → ℕ
 field_num unit xs = cond (has_field unit xs) (decimal (front xs)) 0
+
+-- n is what the first len bytes of the text come to, which are some, and rest is what stands behind them
+abbrev pub Takes : ℕ → ℕ → List ℕ → ℕ → List ℕ → Type 0
+Takes len value xs n rest = (0 < len) × (n ≡ value) × (rest ≡ drop len xs) × (length rest + len ≡ length xs)
+
+-- the field stands first, and its number is read, cut off above the longest duration
+abbrev pub IsField : ℕ → List ℕ → ℕ → List ℕ → Type 0
+IsField unit xs n rest = Takes (field_len unit xs) (min (field_num unit xs) 100000000001) xs n rest
 
 -- what stands behind the point
 abbrev pub behind : List ℕ → List ℕ
@@ -43,6 +51,10 @@ seconds_num xs = by_seconds xs (field_num 83 xs) (field_num 46 xs)
 -- the milliseconds that the decimals are
 abbrev pub seconds_millis : List ℕ → ℕ
 seconds_millis xs = by_seconds xs 0 (field_num 83 (behind xs) * 10 ^ (4 - field_len 83 (behind xs)))
+
+-- seconds stand first, and their milliseconds are read, of the whole ones as of a field's number
+abbrev pub AreSeconds : List ℕ → ℕ → List ℕ → Type 0
+AreSeconds xs ms rest = Takes (seconds_len xs) (min (seconds_num xs) 100000000001 * 1000 + seconds_millis xs) xs ms rest
 
 -- what stands behind the hours
 abbrev pub minutes_on : List ℕ → List ℕ

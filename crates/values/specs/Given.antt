@@ -1,5 +1,5 @@
 -- Values that may be absent, and whether all that are asked for can be read.
-use Rattle.std.specs.Prelude.{ℕ, Bool, false, not, ◌||◌, List, [], ◌∷◌, is_ok, Some, None, Ok, Err, Option, Result}
+use Rattle.std.specs.Prelude.{◌≡◌, ℕ, Bool, true, false, not, ◌||◌, List, [], ◌∷◌, is_ok, Some, None, Ok, Err, Option, Result, MatchResult}
 use Rattle.std.specs.Option.{option_map, option_flatten, option_transpose}
 use Rattle.values.specs.declared.ValueFault.{ValueFault}
 use Rattle.values.specs.Whole.{whole_in}
@@ -48,3 +48,7 @@ unread a = refused_as a.kind a.needed a.text
 abbrev pub some_unread : List Asked → Bool
 some_unread [] = false
 some_unread (a ∷ as') = unread a || some_unread as'
+
+-- the answer says whether all that is asked can be read
+abbrev pub ReadsAll : {X : Type 0} → List Asked → Result X ValueFault → Type 0
+ReadsAll as' answer = MatchResult answer (λ _. some_unread as' ≡ false) (λ _. some_unread as' ≡ true)

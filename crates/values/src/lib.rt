@@ -5,13 +5,13 @@ mod given;
 #[cfg(test)]
 mod tests;
 
-ghost use Rattle.std.specs.Prelude.{◌≡◌, ℕ, ◌+◌, ◌-◌, ◌*◌, ◌^◌, ◌<◌, ◌≤◌, min, max, true, length, drop, ℤ, Ok, MatchResult};
+ghost use Rattle.std.specs.Prelude.{◌≡◌, ℕ, ◌-◌, ◌*◌, ◌^◌, ◌<◌, ◌≤◌, min, true, length, drop, ℤ, Ok, MatchResult, MatchOption, false};
 ghost use Rattle.std.specs.List.{prefix_len};
 ghost use Rattle.values.specs.declared.ValueFault.TheVariants.{NoWholeNumber, NoDuration};
 ghost use Rattle.values.specs.Faults.{number};
 ghost use Rattle.values.specs.Whole.{digit, digits, decimal, Whole, whole_in};
 ghost use Rattle.values.specs.Repeat.{Repeat, repeat_of};
-ghost use Rattle.values.specs.Fields.{field_len, field_num, seconds_len, seconds_num, seconds_millis};
+ghost use Rattle.values.specs.Fields.{field_len, seconds_len, seconds_millis, IsField, AreSeconds};
 ghost use Rattle.values.specs.Duration.{Duration, begun, duration_of};
 
 pub use given::{duration_if, repeat_if, whole_if};
@@ -25,6 +25,7 @@ pub enum ValueFault {
 
 impl ValueFault {
     // The number that a fault is reported by.
+    // A match and no discriminants, so that the proof sees a wrong number.
     pub fn number(self) -> u8
         ensures { result ≡ number self }
     {
@@ -35,25 +36,12 @@ impl ValueFault {
     }
 }
 
-fn is_digit(b: u8) -> bool
-    ensures { result ≡ digit b }
+// How many digits stand first.
+fn digits_end(text: &[u8]) -> usize
+    ensures within { result ≤ length text.now }
+    ensures value { result ≡ prefix_len digit text.now }
 {
-    match b {
-        b'0'..=b'9' => true,
-        _ => false,
-    }
-}
-
-// Where the digits that stand at `at` end.
-fn digits_end(text: &[u8], at: usize) -> usize
-    ensures within { result ≤ max at (length text.now) }
-    ensures value { result ≡ at + prefix_len digit (drop at text.now) }
-{
-    let mut i = at;
-    while i < text.len() && is_digit(text[i]) {
-        i += 1;
-    }
-    i
+    text.iter().take_while(|b| b.is_ascii_digit()).count()
 }
 
 // The number that the digits write, or `most` where it is larger.
@@ -62,38 +50,28 @@ fn capped(text: &[u8], most: u128) -> u128
     requires small { most ≤ 2 ^ 64 }
     ensures { result ≡ min (decimal text.now) most }
 {
-    let mut n = 0;
-    for b in text {
-        n = (n * 10 + u128::from(*b - b'0')).min(most);
-    }
-    n
+    text.iter()
+        .fold(0, |n, b| (n * 10 + u128::from(*b - b'0')).min(most))
 }
 
 // The whole number from `low` to `high` that the text is.
+#[tactic(auto, using(crate::proofs::Numbers::not_digits, crate::proofs::Numbers::all_digits))]
 pub fn whole(text: &[u8], low: u64, high: u64) -> Result<u64, ValueFault>
     ensures computed { result ≡ whole_in low high text.now }
     ensures sound { MatchResult result (λ n. Whole text.now n × (low ≤ n) × (n ≤ high)) (λ f. f ≡ NoWholeNumber) }
     ensures complete { (n : ℕ) → Whole text.now n → low ≤ n → n ≤ high → result ≡ Ok n }
 {
-    if text.is_empty() {
-        return Err(ValueFault::NoWholeNumber);
-    }
-    let end = digits_end(text, 0);
-    if end < text.len() {
+    if text.is_empty() || digits_end(text) < text.len() {
         return Err(ValueFault::NoWholeNumber);
     }
     // One more than `high` stands for all that is more.
-    let n = capped(text, u128::from(high) + 1);
-    if n < u128::from(low) {
-        return Err(ValueFault::NoWholeNumber);
+    match u64::try_from(capped(text, u128::from(high) + 1)) {
+        Ok(n) if (low..=high).contains(&n) => Ok(n),
+        _ => Err(ValueFault::NoWholeNumber),
     }
-    if n > u128::from(high) {
-        return Err(ValueFault::NoWholeNumber);
-    }
-    Ok(n as u64)
 }
 
-// The repeat count that the text is: -1, or a whole number.
+// The repeat count that the text is: -1, for up to the end, or a whole number. It is signed as it is written.
 pub fn repeat(text: &[u8]) -> Result<i32, ValueFault>
     ensures computed { result ≡ repeat_of text.now }
     ensures sound { MatchResult result (λ z. Repeat text.now z) (λ f. f ≡ NoWholeNumber) }
@@ -106,109 +84,68 @@ pub fn repeat(text: &[u8]) -> Result<i32, ValueFault>
     Ok(n as i32)
 }
 
-// The longest duration, in milliseconds.
+// The longest duration, in milliseconds. The latest time that a head seeks is another limit, of the same size.
 const LONGEST: u64 = 100_000_000_000;
 
-// More than any number in a duration that is not too long.
-const CAP: u128 = 100_000_000_001;
-
-// A number and where its field ends.
+// A number that is read, and the text behind it.
 #[derive(Clone, Copy)]
-struct Taken {
+struct Taken<'a> {
     value: u64,
-    end: usize,
+    rest: &'a [u8],
 }
 
-// The number at `at` that has the unit behind it; where none stands, 0 that ends at `at`.
-fn field(text: &[u8], at: usize, unit: u8) -> Taken
+// The number that stands first with the unit behind it, or more than the longest duration where it is larger.
+#[tactic(auto, using(crate::proofs::Numbers::front_digits))]
+fn field(text: &[u8], unit: u8) -> Option<Taken<'_>>
     requires { 0 < unit }
-    ensures within { result.end ≤ max at (length text.now) }
-    ensures end { result.end ≡ at + field_len unit (drop at text.now) }
-    ensures value { result.value ≡ min (field_num unit (drop at text.now)) 100000000001 }
+    ensures { MatchOption result (field_len unit text.now ≡ 0) (λ taken. IsField unit text.now taken.value taken.rest.now) }
 {
-    let none = Taken { value: 0, end: at };
-    let end = digits_end(text, at);
-    if end <= at {
-        return none;
+    let (digits, behind) = text.split_at(digits_end(text));
+    let (next, rest) = behind.split_first()?;
+    if digits.is_empty() || *next != unit {
+        return None;
     }
-    if end >= text.len() {
-        return none;
-    }
-    if text[end] != unit {
-        return none;
-    }
-    let value = capped(&text[at..end], CAP);
-    Taken {
-        value: value as u64,
-        end: end + 1,
-    }
+    let value = capped(digits, u128::from(LONGEST) + 1) as u64;
+    Some(Taken { value, rest })
 }
 
-// The seconds and milliseconds of a duration, and where they end.
-#[derive(Clone, Copy)]
-struct Split {
-    whole: u64,
-    millis: u64,
-    end: usize,
-}
-
-// The seconds at `at`, with up to three decimals; where none stand, 0 that ends at `at`.
-fn seconds(text: &[u8], at: usize) -> Split
-    ensures within { result.end ≤ max at (length text.now) }
-    ensures end { result.end ≡ at + seconds_len (drop at text.now) }
-    ensures whole { result.whole ≡ min (seconds_num (drop at text.now)) 100000000001 }
-    ensures few { result.millis ≤ 99900 }
-    ensures millis { result.millis ≡ seconds_millis (drop at text.now) }
+// The milliseconds of the seconds that stand first, with up to three decimals.
+fn seconds(text: &[u8]) -> Option<Taken<'_>>
+    ensures read { MatchOption result (seconds_len text.now ≡ 0) (λ taken. AreSeconds text.now taken.value taken.rest.now) }
+    ensures few { seconds_millis text.now ≤ 99900 }
 {
-    let none = Split {
-        whole: 0,
-        millis: 0,
-        end: at,
-    };
-    let plain = field(text, at, b'S');
-    if plain.end > at {
-        return Split {
-            whole: plain.value,
-            millis: 0,
-            end: plain.end,
-        };
+    if let Some(plain) = field(text, b'S') {
+        return Some(Taken {
+            value: plain.value * 1000,
+            rest: plain.rest,
+        });
     }
-    let point = field(text, at, b'.');
-    if point.end <= at {
-        return none;
+    let point = field(text, b'.')?;
+    let decimals = field(point.rest, b'S')?;
+    let len = point.rest.len() - decimals.rest.len();
+    if len > 4 {
+        return None;
     }
-    let decimals = field(text, point.end, b'S');
-    if decimals.end <= point.end {
-        return none;
-    }
-    if decimals.end - point.end > 4 {
-        return none;
-    }
-    let millis = scaled(decimals.value, decimals.end - point.end);
-    Split {
-        whole: point.value,
-        millis,
-        end: decimals.end,
-    }
+    Some(Taken {
+        value: point.value * 1000 + scaled(decimals.value, len),
+        rest: decimals.rest,
+    })
 }
 
 // The milliseconds of decimals that take `len` bytes with the S behind them.
 fn scaled(n: u64, len: usize) -> u64
     requires { (n ≤ 100000000001) × ((1 < len) × (len ≤ 4)) }
-    ensures { result ≡ n * 10 ^ (4 - len) }
+    ensures value { result ≡ n * 10 ^ (4 - len) }
+    ensures bound { result ≤ n * 100 }
 {
-    match len {
-        2 => n * 100,
-        3 => n * 10,
-        _ => n,
-    }
+    n * 10u64.pow(4 - len as u32)
 }
 
-// Whether the text begins with PT and goes on.
-fn begins(text: &[u8]) -> bool
-    ensures { result ≡ begun text.now }
+// What stands behind PT, where the text begins with it and goes on.
+fn behind_pt(text: &[u8]) -> Option<&[u8]>
+    ensures { MatchOption result (begun text.now ≡ false) (λ rest. (begun text.now ≡ true) × (rest.now ≡ drop 2 text.now)) }
 {
-    text.len() > 2 && text[0] == b'P' && text[1] == b'T'
+    text.strip_prefix(b"PT").filter(|rest| !rest.is_empty())
 }
 
 // The milliseconds of the duration that the text is.
@@ -217,19 +154,15 @@ pub fn duration(text: &[u8]) -> Result<u64, ValueFault>
     ensures sound { MatchResult result (λ ms. Duration text.now ms) (λ f. f ≡ NoDuration) }
     ensures complete { (ms : ℕ) → Duration text.now ms → result ≡ Ok ms }
 {
-    if !begins(text) {
-        return Err(ValueFault::NoDuration);
-    }
-    let hours = field(text, 2, b'H');
-    let minutes = field(text, hours.end, b'M');
-    let rest = seconds(text, minutes.end);
-    if rest.end != text.len() {
-        return Err(ValueFault::NoDuration);
-    }
-    let total = hours.value * 3_600_000
-        + minutes.value * 60_000
-        + (rest.whole * 1000 + rest.millis);
-    if total > LONGEST {
+    let rest = behind_pt(text).ok_or(ValueFault::NoDuration)?;
+    let hours = field(rest, b'H').unwrap_or(Taken { value: 0, rest });
+    let minutes = field(hours.rest, b'M').unwrap_or(Taken { value: 0, ..hours });
+    let seconds = seconds(minutes.rest).unwrap_or(Taken {
+        value: 0,
+        ..minutes
+    });
+    let total = hours.value * 3_600_000 + minutes.value * 60_000 + seconds.value;
+    if !seconds.rest.is_empty() || total > LONGEST {
         return Err(ValueFault::NoDuration);
     }
     Ok(total)

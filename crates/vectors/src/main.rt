@@ -1,90 +1,48 @@
 // Lists the manifests that INDEX names, and holds each listing to the expected one that lies beside it.
 #![tactic(auto)]
 
-use full_listing::{ListFault, Printed, survey, write_line};
+use full_listing::{Listing, Printed, survey};
 use output::Output;
-use presentation::Plan;
 use rules::Finding;
 use std::alloc::{AllocError, Global};
 use std::io::Write;
 use std::{fs, io};
-use tables::{Attribute, Element, Span, Table};
+use tables::{Attribute, Element, ManifestRows, Row, Table};
 use timeline::Run;
 
 const LINE: usize = 65_536;
 
 const ROWS: usize = 1_024;
 
-// More places than any listing has: two counts, and a line for each place of a timeline.
-const PLACES: u64 = u32::MAX as u64 + 3;
-
-const NOWHERE: Span = Span { at: 0, len: 0 };
-
-const NO_ELEMENT: Element = Element {
-    name: NOWHERE,
-    parent: 0,
-    level: 0,
-    text: NOWHERE,
-};
-
-const NO_ATTRIBUTE: Attribute = Attribute {
-    element: 0,
-    name: NOWHERE,
-    value: NOWHERE,
-};
-
-const NO_FINDING: Finding = Finding {
-    rule: None,
-    element: 0,
-};
-
-const NO_RUN: Run = Run {
-    start: 0,
-    length: 0,
-    count: 0,
-};
-
-// Adds the line at a place to the listing; false where none follows it.
-fn list_line(
-    listed: &mut Vec<u8>,
-    answer: Result<Option<Plan>, ListFault>,
-    elements: &[Element],
-    findings: &[Finding],
-    runs: &[Run],
-    place: u64,
-) -> Result<bool, AllocError> {
+// Adds the line at a place to the listing.
+fn list_line(listed: &mut Vec<u8>, listing: &Listing, place: u64) -> Result<Printed, AllocError> {
     let mut bytes = [0u8; LINE];
     let mut out = Output::new(&mut bytes);
-    let printed = write_line(answer, elements, findings, runs, place, &mut out);
+    let printed = listing.write_line(place, &mut out);
     listed.extend_from_slice(out.written())?;
-    match printed {
-        Printed::Line => Ok(true),
-        Printed::Last => Ok(false),
-        Printed::End => Ok(false),
-    }
+    Ok(printed)
 }
 
 // The whole listing of the manifest.
 fn list(heap: Global, manifest: &[u8]) -> Result<Vec<u8>, AllocError> {
-    let mut element_rows = [NO_ELEMENT; ROWS];
-    let mut attribute_rows = [NO_ATTRIBUTE; ROWS];
-    let mut finding_rows = [NO_FINDING; ROWS];
-    let mut run_rows = [NO_RUN; ROWS];
-    let mut elements = Table::new(&mut element_rows);
-    let mut attributes = Table::new(&mut attribute_rows);
+    // The rows stand here, since a table only borrows them.
+    let mut element_rows = [Element::zeroed(); ROWS];
+    let mut attribute_rows = [Attribute::zeroed(); ROWS];
+    let mut finding_rows = [Finding::zeroed(); ROWS];
+    let mut run_rows = [Run::zeroed(); ROWS];
+    let mut rows = ManifestRows::new(&mut element_rows, &mut attribute_rows);
     let mut findings = Table::new(&mut finding_rows);
     let mut runs = Table::new(&mut run_rows);
-    let answer = survey(
-        manifest,
-        &mut elements,
-        &mut attributes,
-        &mut findings,
-        &mut runs,
-    );
-    let (elements, findings, runs) = (elements.rows(), findings.rows(), runs.rows());
+    let answer = survey(manifest, &mut rows, &mut findings, &mut runs);
+    let listing = Listing {
+        answer,
+        elements: rows.elements.rows(),
+        findings: findings.rows(),
+        runs: runs.rows(),
+    };
     let mut listed = Vec::new(heap);
-    for place in 0..PLACES {
-        if !list_line(&mut listed, answer, elements, findings, runs, place)? {
+    for place in 0..Listing::PLACES {
+        if list_line(&mut listed, &listing, place)? != Printed::Line {
             break;
         }
     }
@@ -93,37 +51,19 @@ fn list(heap: Global, manifest: &[u8]) -> Result<Vec<u8>, AllocError> {
 
 // Where the first line begins that the two texts do not share.
 fn parting(a: &[u8], b: &[u8]) -> usize {
-    let mut from = 0;
-    for i in 0..a.len().min(b.len()) {
-        if a[i] != b[i] {
-            break;
-        }
-        if a[i] == b'\n' {
-            from = i + 1;
-        }
-    }
-    from
+    let shared = a.iter().zip(b).take_while(|(x, y)| x == y).count();
+    let met = &a[..shared.min(a.len())];
+    met.iter().rposition(|b| *b == b'\n').map_or(0, |at| at + 1)
 }
 
 // How many lines end in the text.
 fn count_lines(text: &[u8]) -> usize {
-    let mut count = 0usize;
-    for b in text {
-        if *b == b'\n' {
-            count = count.saturating_add(1);
-        }
-    }
-    count
+    text.iter().filter(|b| **b == b'\n').count()
 }
 
 // The text up to the end of its first line.
 fn first_line(text: &[u8]) -> &[u8] {
-    for i in 0..text.len() {
-        if text[i] == b'\n' {
-            return &text[0..i];
-        }
-    }
-    text
+    text.split(|b| *b == b'\n').next().unwrap_or(text)
 }
 
 // Prints the line of a listing that is not the expected one.

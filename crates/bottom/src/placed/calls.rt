@@ -1,9 +1,9 @@
 // What a bottom timeline with addresses tells and writes.
-ghost use Rattle.std.specs.Prelude.{◌≡◌, cond, []};
+ghost use Rattle.std.specs.Prelude.{◌≡◌, true, false, MatchResult};
 ghost use Rattle.address.specs.Joining.{address_of};
 ghost use Rattle.template.specs.Reading.{broken};
 ghost use Rattle.timeline.specs.Segments.{blank};
-ghost use Rattle.bottom.specs.Placing.{unless, sound_unless, address_at, carried};
+ghost use Rattle.bottom.specs.Placing.{unless, sound_unless, address_at, as_address_fault};
 
 use super::Placed;
 use address::{ExpandFault, Parts, put_address};
@@ -11,14 +11,14 @@ use output::Mark;
 use template::is_broken;
 use timeline::{AddressFault, Addressed, NoSuchPlace, Segment, Timeline};
 
-// The answer of a put, as one of an address.
-fn carry(answer: Result<(), ExpandFault>) -> Result<(), AddressFault>
-    ensures { result ≡ carried answer }
+// The refusal of a put, as one of an address: a broken template has no places. No `From`, since both types are other
+// crates'.
+fn as_address_fault(fault: ExpandFault) -> AddressFault
+    ensures { result ≡ as_address_fault fault }
 {
-    match answer {
-        Ok(()) => Ok(()),
-        Err(ExpandFault::NoRoom(full)) => Err(AddressFault::NoRoom(full)),
-        Err(ExpandFault::Broken) => Err(AddressFault::NoSuchPlace(NoSuchPlace)),
+    match fault {
+        ExpandFault::NoRoom(full) => AddressFault::NoRoom(full),
+        ExpandFault::Broken => AddressFault::NoSuchPlace(NoSuchPlace),
     }
 }
 
@@ -32,6 +32,17 @@ impl<'a, T: Timeline> Placed<'a, T> {
         let torn = is_broken(parts.template);
         Placed { below, parts, torn }
     }
+
+    // The timeline below, if its segments have addresses.
+    fn whole(&self) -> Result<&T, NoSuchPlace>
+        ensures { MatchResult result (λ below. (self.now.torn ≡ false) × (below.now ≡ self.now.below)) (λ _. self.now.torn ≡ true) }
+    {
+        if self.torn {
+            Err(NoSuchPlace)
+        } else {
+            Ok(&self.below)
+        }
+    }
 }
 
 impl<'a, T: Timeline> Timeline for Placed<'a, T> {
@@ -40,35 +51,23 @@ impl<'a, T: Timeline> Timeline for Placed<'a, T> {
     ghost sound = { λ p. sound_unless p.torn (T.Timeline.segments p.below) (T.Timeline.sound p.below) };
 
     fn count(&self) -> u32 {
-        if self.torn { 0 } else { self.below.count() }
+        self.whole().map_or(0, |below| below.count())
     }
 
     fn segment(&self, place: u32) -> Result<Segment, NoSuchPlace> {
-        if self.torn {
-            Err(NoSuchPlace)
-        } else {
-            self.below.segment(place)
-        }
+        self.whole()?.segment(place)
     }
 
     fn ended(&self, tick: u64) -> u32 {
-        if self.torn { 0 } else { self.below.ended(tick) }
+        self.whole().map_or(0, |below| below.ended(tick))
     }
 
     fn within(&self, from: u64, to: u64) -> u32 {
-        if self.torn {
-            0
-        } else {
-            self.below.within(from, to)
-        }
+        self.whole().map_or(0, |below| below.within(from, to))
     }
 
     fn nth_after(&self, from: u64, nth: u32) -> Result<Segment, NoSuchPlace> {
-        if self.torn {
-            Err(NoSuchPlace)
-        } else {
-            self.below.nth_after(from, nth)
-        }
+        self.whole()?.nth_after(from, nth)
     }
 }
 
@@ -82,12 +81,13 @@ impl<'a, T: Timeline> Addressed for Placed<'a, T> {
         mark: &mut Mark,
     ) -> Result<(), AddressFault> {
         let segment = self.segment(place)?;
-        carry(put_address(
+        put_address(
             bytes,
             mark,
             &self.parts,
-            segment.number as u64,
+            u64::from(segment.number),
             segment.start,
-        ))
+        )
+        .map_err(as_address_fault)
     }
 }

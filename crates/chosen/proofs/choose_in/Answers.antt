@@ -1,33 +1,28 @@
-use Rattle.std.proofs.Common.{◌+◌, length, sym, ap, subst, arith}
+use Rattle.std.proofs.Common.{◌≡◌, ◌-◌, length, refl, sym, ap, ◌∙◌, rules, tests}
+use Rattle.std.proofs.lemmas.Iterator.{YieldsList-from_range}
+use Rattle.std.proofs.lemmas.Iterator.Consumers.{YieldsList-from_filter, nth_from_yields_List}
+use Rattle.std.proofs.lemmas.Iterator.Adapters.{option_map_id}
 use Rattle.std.specs.Option.{option_map}
-use Rattle.tree.proofs.Rows.{Counts, counts_none, counts_here, counts_on, counts_more, counts_end}
-use Rattle.chosen.specs.Choosing.{is_representation_of, chosen_at}
+use Rattle.std.specs.List.{slice_get}
+use Rattle.tree.specs.Trees.{on}
+use Rattle.chosen.specs.Choosing.{chosen_at, is_representation_of, representations_of}
 use Rattle.chosen.proofs.choose_in.Goals as goal
-use Rattle.chosen.proofs.choose_in.Goals.{then-is_representation+else-before-position, else-is_representation}
+use Rattle.chosen.proofs.choose_in.Goals.{After-nth}
 
-pub rows-init : goal.rows-init
-rows-init c = counts_none _ _ c.args.position
-
-pub returns-then-before-position : goal.returns-then-before-position
-returns-then-before-position c =
+found : (c : After-nth) → c.nth.result ≡ slice_get (on representations_of c.args.tree.now c.args.period) c.args.position
+found c =
     let t = c.args.tree.now in
-    ap (option_map (chosen_at t.manifest.now t.elements.now t.attributes.now c.args.period))
-    (sym (counts_here _ _ c.args.position c.rows.before c.rows.row c.rows.invariant (omega arith) c.if-is_representation.ensures (omega arith)))
-
-pub rows-preserved : goal.rows-preserved
-rows-preserved c =
-    let t = c.args.tree.now in
-    let p = is_representation_of t.manifest.now t.elements.now t.attributes.now c.args.period in
     let n = length t.elements.now in
-    let at = c.args.position in
-    let k = c.rows.row in
-    elim c.if-is_representation.branch [
-      | then-is_representation+else-before-position w ↦ subst (λ b. Counts p n at b (k + 1)) (sym w.before-is) (counts_on p n at c.rows.before k c.rows.invariant (omega arith) w.if-is_representation.ensures (omega (arith, c.rows.invariant.short)))
-      | else-is_representation w ↦ subst (λ b. Counts p n at b (k + 1)) (sym w.before-is) (counts_more p n at c.rows.before k c.rows.invariant (omega arith) w.if-is_representation.ensures)
-    ]
+    sym (option_map_id c.nth.result)
+    ∙ nth_from_yields_List c.nth.result c.nth.new.self c.args.position c.nth.ensures.ran
+    (YieldsList-from_filter _ (on is_representation_of t c.args.period) (YieldsList-from_range {s = c.filter.result.iter} 0 n (n - 0) (cc) refl) c.filter.ensures.closure (λ x r q k. search (rules, tests)))
+
+pub returns-in_err-representation : goal.returns-in_err-representation
+returns-in_err-representation c =
+    let is = found (goal.at.returns-in_err-representation c).After-nth in
+    c.from_residual.ensures ∙ ap (option_map (on chosen_at c.args.tree.now c.args.period)) (sym c.in_err-representation.was ∙ is)
 
 pub returns : goal.returns
 returns c =
-    let t = c.args.tree.now in
-    ap (option_map (chosen_at t.manifest.now t.elements.now t.attributes.now c.args.period))
-    (sym (counts_end _ _ c.args.position c.rows.before c.rows.row c.rows.invariant (omega arith)))
+    let is = found (goal.at.returns c).After-nth in
+    rw c.parent.ensures (ap (option_map (on chosen_at c.args.tree.now c.args.period)) (sym c.in_ok-representation.was ∙ is))

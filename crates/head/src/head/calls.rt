@@ -1,15 +1,19 @@
 // The calls of a head.
 ghost use Rattle.std.specs.Prelude.{◌≡◌};
 ghost use Rattle.head.specs.Heads.{sought, standing, onward, backward, found, reply, moved, Seeks, PutsAddress};
+ghost use Rattle.head.specs.Sequences.{output_of, left_at, Obeys};
 
 use super::Head;
 use crate::fault::HeadFault;
+use crate::step::Call;
 use output::Mark;
 use timeline::{Addressed, Timeline};
 
+// The latest time to seek, in milliseconds. The longest duration is another limit, of the same size.
 const LATEST: u64 = 100_000_000_000;
 
-const FINEST: u32 = 10_000_000;
+// The finest timescale, in ticks per second.
+pub const FINEST: u32 = 10_000_000;
 
 impl Head {
     // Goes to the segment that covers the time.
@@ -21,16 +25,15 @@ impl Head {
         if ms > LATEST || self.timescale < 1 || self.timescale > FINEST {
             return Err(HeadFault::OutOfRange);
         }
-        let tick = ms * self.timescale as u64 / 1000;
-        let covering = timeline.within(tick, tick + 1);
-        if covering == 0 {
-            return Err(HeadFault::NoneCovers);
+        let tick = ms * u64::from(self.timescale) / 1000;
+        match timeline.within(tick, tick + 1) {
+            0 => Err(HeadFault::NoneCovers),
+            1 => {
+                self.place = Some(timeline.ended(tick));
+                Ok(())
+            }
+            _ => Err(HeadFault::TwoCover),
         }
-        if covering > 1 {
-            return Err(HeadFault::TwoCover);
-        }
-        self.place = Some(timeline.ended(tick));
-        Ok(())
     }
 
     // Goes to the next place.
@@ -53,12 +56,9 @@ impl Head {
         ensures head { self.new ≡ moved self.old (backward (T.Timeline.segments timeline.now) self.old.place) }
     {
         let place = self.here(timeline)?;
-        if place > 0 {
-            self.place = Some(place - 1);
-            Ok(())
-        } else {
-            Err(HeadFault::NoNeighbour)
-        }
+        let before = place.checked_sub(1).ok_or(HeadFault::NoNeighbour)?;
+        self.place = Some(before);
+        Ok(())
     }
 
     // Puts the address of the head's place behind the mark.
@@ -75,13 +75,32 @@ impl Head {
         Ok(())
     }
 
+    // Does what the call says.
+    pub fn obey<T: Addressed>(
+        &mut self,
+        timeline: &T,
+        call: Call,
+        bytes: &mut [u8],
+        mark: &mut Mark,
+    ) -> Result<(), HeadFault>
+        ensures timescale { self.new.timescale ≡ self.old.timescale }
+        ensures place { self.new.place ≡ left_at (T.Timeline.segments timeline.now) self.old.timescale self.old.place call }
+        ensures obeys { Obeys (T.Timeline.segments timeline.now) (T.Addressed.address timeline.now) self.old.timescale self.old.place call result self.new.place (output_of bytes.old mark.old.used) (output_of bytes.new mark.new.used) }
+    {
+        match call {
+            Call::Seek(ms) => self.seek(timeline, ms),
+            Call::On => self.on(timeline),
+            Call::Back => self.back(timeline),
+            Call::Address => self.address(timeline, bytes, mark),
+        }
+    }
+
     // The place where the head stands, if the timeline has it.
     fn here<T: Timeline>(&self, timeline: &T) -> Result<u32, HeadFault>
         ensures { found result ≡ standing (T.Timeline.segments timeline.now) self.now.place }
     {
-        match self.place {
-            Some(place) if place < timeline.count() => Ok(place),
-            _ => Err(HeadFault::Nowhere),
-        }
+        self.place
+            .filter(|place| *place < timeline.count())
+            .ok_or(HeadFault::Nowhere)
     }
 }

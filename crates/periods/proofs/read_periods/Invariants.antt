@@ -1,8 +1,8 @@
-use Rattle.std.proofs.Common.{◌≡◌, ◌+◌, ◌-◌, ◌≤◌}
-use Rattle.periods.proofs.Asks.{unread_in}
+use Rattle.std.proofs.Common.{◌≡◌, ◌+◌, take}
+use Rattle.tree.specs.Trees.{on}
+use Rattle.periods.specs.Starts.{periods}
+use Rattle.periods.proofs.Asks.{unread_by}
 use Rattle.periods.proofs.read_periods.Given as goal
 
-abbrev pub invariant-rows : goal.invariant-rows
-invariant-rows l = (l.read ≤ l.position + 1)
-    × (l.read ≤ l.row)
-    × (unread_in l.tree.manifest.now l.tree.elements.now l.tree.attributes.now (l.position + 2) 0 ≡ unread_in l.tree.manifest.now l.tree.elements.now l.tree.attributes.now (l.position + 2 - l.read) l.row)
+abbrev pub invariant-periods : goal.invariant-periods
+invariant-periods l = on unread_by l.tree (take (l.position + 2) (on periods l.tree)) ≡ on unread_by l.tree (take l.row-iterator.n l.row-iterator.iter)

@@ -1,6 +1,6 @@
 // The calls of a table.
 ghost use Rattle.std.specs.Prelude.{◌≡◌, ℕ, ◌<◌, List, [], ◌∷◌, ◌++◌, length, MatchResult, nat_le};
-ghost use Rattle.tables.specs.Rows.{held, capacity, Clean};
+ghost use Rattle.tables.specs.Rows.{held, capacity, Clean, IsFull};
 
 use super::Table;
 use crate::row::{Full, Row};
@@ -36,19 +36,19 @@ impl<'a, R: Row> Table<'a, R> {
     pub fn rows(&self) -> &[R]
         ensures { result.now ≡ held self.now }
     {
-        &self.rows[0..self.used]
+        &self.rows[..self.used]
     }
 
     // Takes one row more, and refuses it only when every row is used.
     pub fn push(&mut self, row: R) -> Result<(), Full>
         ensures answer { MatchResult result
             (λ _. (length (held self.old) < capacity self.old) × (held self.new ≡ held self.old ++ row ∷ []))
-            (λ _. (length (held self.old) ≡ capacity self.old) × (held self.new ≡ held self.old)) }
+            (λ _. IsFull self.old × (held self.new ≡ held self.old)) }
         ensures capacity { capacity self.new ≡ capacity self.old }
         ensures clean { (z : R) → Clean z self.old → Clean z self.new }
         ensures lent { self.new.rows.ghost_name ≡ self.old.rows.ghost_name }
     {
-        if self.used >= self.rows.len() {
+        if self.is_full() {
             return Err(Full);
         }
         self.rows[self.used] = row;
@@ -64,8 +64,10 @@ impl<'a, R: Row> Table<'a, R> {
         ensures lent { self.new.rows.ghost_name ≡ self.old.rows.ghost_name }
     {
         self.used = 0;
-        for i in 0..self.rows.len() {
-            self.rows[i] = R::zeroed();
+
+        // Not `fill`, which asks that no clone of a row can fail: `Copy` does not promise that.
+        for row in self.rows.iter_mut() {
+            *row = R::zeroed();
         }
     }
 }

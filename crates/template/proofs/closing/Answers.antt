@@ -1,22 +1,9 @@
-use Rattle.std.proofs.Common.{sym, ap, ◌∙◌}
+use Rattle.std.proofs.Common.{sym, ap}
 use Rattle.template.specs.Pieces.{width_text}
 use Rattle.template.specs.Reading.{measured, width_of, closing_text}
-use Rattle.template.proofs.Measured.{measured_some, measured_none}
-use Rattle.template.proofs.Steps.{plain, no_width, no_end, tag_there}
+use Rattle.template.proofs.Measured.{measured_some}
+use Rattle.template.proofs.Steps.{no_end, tag_there}
 use Rattle.template.proofs.closing.Goals as goal
-
-pub returns-then-begins_at : goal.returns-then-begins_at
-returns-then-begins_at c =
-    sym (ap (measured closing_text) (plain c.args.text.now c.args.at (sym c.if-begins_at.ensures)))
-
-pub returns-in_err-width : goal.returns-in_err-width
-returns-in_err-width c =
-    let a = c.byte_at.result in
-    let b = c.byte_at-2.result in
-    let none = measured_none width_text (width_of a b) c.in_err-width.ensures in
-    let e = no_width c.args.text.now c.args.at (sym c.if-begins_at.ensures) (sym c.if-not-begins_at.ensures)
-    a b c.byte_at.ensures c.byte_at-2.ensures none in
-    c.from_residual.ensures ∙ sym (ap (measured closing_text) e)
 
 pub returns-then-not-begins_at-2 : goal.returns-then-not-begins_at-2
 returns-then-not-begins_at-2 c =

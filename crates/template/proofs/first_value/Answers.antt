@@ -1,18 +1,10 @@
-use Rattle.std.proofs.Common.{◌+◌, ◌≤◌, true, false, length, drop, Some, None, sym, ap, ◌∙◌, arith}
-use Rattle.template.specs.declared.Identifier.{Identifier}
-use Rattle.template.specs.declared.Identifier.TheVariants.{RepresentationId, Number, Bandwidth, Time}
+use Rattle.std.proofs.Common.{◌+◌, true, false, length, drop, Some, None, sym, ap, ◌∙◌}
 use Rattle.template.specs.declared.Piece.TheVariants.{Value}
-use Rattle.template.specs.Pieces.{name_of, text_of}
+use Rattle.template.specs.Pieces.{text_of}
 use Rattle.template.specs.Reading.{measured, closing_text, closing_of}
 use Rattle.template.proofs.Measured.{measured_some, measured_none}
-use Rattle.template.proofs.Steps.{closing_short, closing_there, value_there, value_length}
+use Rattle.template.proofs.Steps.{closing_there, value_there, value_length}
 use Rattle.template.proofs.first_value.Goals as goal
-
-name_short : (i : Identifier) → length (name_of i) ≤ 16
-name_short RepresentationId = omega arith
-name_short Number = omega arith
-name_short Bandwidth = omega arith
-name_short Time = omega arith
 
 pub returns-in_err-tag : goal.returns-in_err-tag
 returns-in_err-tag c =
@@ -31,13 +23,6 @@ returns-then-not-takes_tag c =
     let e = value_there s c.args.identifier name c.name_of-name.ensures (sym c.if-not-begins_at.ensures)
     tag some.0 false (sym c.if-not-takes_tag.ensures) in
     sym (ap (measured text_of) e)
-
-pub overflow_add-result : goal.overflow_add-result
-overflow_add-result c =
-    let name = c.name_of-name.result.now in
-    let tag = c.in_ok-tag.tag in
-    let some = measured_some closing_text (closing_of (drop (1 + length name) c.args.text.now)) tag c.in_ok-tag.long c.in_ok-tag.ensures in
-    omega (arith, some.1, closing_short tag, name_short c.args.identifier, ap length c.name_of-name.ensures)
 
 pub returns : goal.returns
 returns c =

@@ -1,22 +1,18 @@
-use Rattle.std.proofs.Common.{true, false, drop, sym, ◌∙◌}
-use Rattle.std.proofs.lemmas.List.{at_drop_all}
-use Rattle.template.specs.Reading.{broken}
-use Rattle.template.proofs.Walks.{broken_on, broken_here, broken_tells}
+use Rattle.std.proofs.Common.{◌≡◌, false, [], is_some, Some, None, Option, sym, ◌∙◌}
+use borrow.Author.Tests.{clash}
+use Rattle.std.specs.Iterator.{YieldsFirst}
+use Rattle.template.specs.Left.{pieces_left}
+use Rattle.template.specs.declared.Piece.{Piece}
+use Rattle.template.specs.declared.Pieces.{Pieces}
+use Rattle.template.proofs.Walks.{broken_stop, broken_tells}
 use Rattle.template.proofs.is_broken.Goals as goal
 
-pub pieces-preserved : goal.pieces-preserved
-pieces-preserved c =
-    c.pieces.invariant
-    ∙ broken_on c.args.template.now c.pieces.at c.in-Piece.field-0 c.in-Piece.end c.in-Piece.ensures.told
+none_left : (s u : Pieces) (o : Option Piece) → YieldsFirst pieces_left s o u → is_some o ≡ false → pieces_left u ≡ []
+none_left s u None steps e = steps.1
+none_left s u (Some p) steps e = absurd (clash (sym e))
 
-pub returns-in-End : goal.returns-in-End
-returns-in-End c =
-    let t = c.args.template.now in
-    let at = c.pieces.at in
-    broken_tells t false (sym (c.pieces.invariant ∙ at_drop_all broken t at c.in-End.ensures.told))
-
-pub returns-in-Broken : goal.returns-in-Broken
-returns-in-Broken c =
-    let t = c.args.template.now in
-    let at = c.pieces.at in
-    broken_tells t true (sym (c.pieces.invariant ∙ broken_here at (drop at t) c.in-Broken.ensures.value))
+pub returns : goal.returns
+returns c =
+    let last = none_left c.loop.pieces c.advance.new.self c.advance.result c.advance.ensures.steps (sym c.is_some.ensures ∙ c.loop-test.false) in
+    broken_tells c.args.template.now _
+    (broken_stop c.advance.new.self.rest.now last c.is_empty.result c.is_empty.ensures ∙ c.advance.ensures.broken ∙ c.loop.invariant)

@@ -1,9 +1,10 @@
-use Rattle.std.proofs.Common.{◌≡◌, ◌-◌, length, drop}
+use Rattle.std.proofs.Common.{◌≡◌, length}
 use Rattle.template.specs.Reading.{broken}
+use Rattle.template.specs.Left.{pieces_left, left_broken}
 use Rattle.template.proofs.is_broken.Given as goal
 
-abbrev pub invariant-pieces : goal.invariant-pieces
-invariant-pieces l = broken l.template ≡ broken (drop l.at l.template)
+abbrev pub invariant-loop : goal.invariant-loop
+invariant-loop l = left_broken l.pieces ≡ broken l.template
 
-abbrev pub decreases-pieces : goal.decreases-pieces
-decreases-pieces l = length l.template - l.at
+abbrev pub decreases-loop : goal.decreases-loop
+decreases-loop l = length (pieces_left l.pieces)

@@ -1,11 +1,11 @@
 -- The list that fair runs write out is within the limits and in order.
-use Rattle.std.specs.Prelude.{◌≡◌, ℕ, ◌+◌, ◌-◌, ◌*◌, ◌^◌, ◌<◌, ◌≤◌, true, List, [], ◌∷◌, ◌++◌, length, slice_index_or, refl}
+use Rattle.std.specs.Prelude.{◌≡◌, ℕ, ◌+◌, ◌-◌, ◌*◌, ◌^◌, ◌<◌, ◌≤◌, true, List, [], ◌∷◌, ◌++◌, length, nat_lt, slice_index_or, refl}
 use Rattle.std.proofs.Common.{◌∙◌, inl, inr, arith, add-mul, mul-le-mul_right}
 use Rattle.std.specs.List.{AllByRecursion}
 use Rattle.std.proofs.ByRecursion.{All-append, All-from_get_or}
 use Rattle.std.proofs.lemmas.List.{length-append, get_or_append_left, get_or-append_right}
 use Rattle.std.proofs.lemmas.List.FromFn.{length-map-range_with_len, get_or-map-range_with_len}
-use Rattle.std.proofs.lemmas.Bool.{and_parts, leb-true, cases_lt}
+use Rattle.std.proofs.lemmas.Bool.{and_parts, or_parts, not-true, leb-true, ltb-false, cases_lt}
 use Rattle.timeline.specs.declared.run.Run.{Run}
 use Rattle.timeline.specs.declared.segment.Segment.{Segment}
 use Rattle.timeline.specs.Segments.{end, blank, Sound, Limited}
@@ -106,9 +106,9 @@ below n h = omega arith
 pub sound_expanded : (first : ℕ) (runs : List Run) → fair_runs first runs ≡ true → Sound (expanded first runs)
 sound_expanded first runs fair =
     let a = and_parts _ _ fair in
-    let b = and_parts _ _ a.1 in
+    let b = or_parts (nat_lt 2147483647 (many runs)) (nat_lt 4294967296 (first + many runs)) (not-true _ a.1) in
     record {
-      few = rw length-expanded (below (many runs) (leb-true _ _ b.0));
-      limited = limited_expanded 0 first runs a.0 (leb-true _ _ b.1);
+      few = rw length-expanded (below (many runs) (ltb-false 2147483647 _ b.0));
+      limited = limited_expanded 0 first runs a.0 (ltb-false 4294967296 _ b.1);
       order = ordered_expanded 0 first runs a.0;
     }

@@ -5,34 +5,38 @@ ghost use Rattle.timeline.specs.Bottoms.{of_even, sound_even};
 
 use super::Even;
 use crate::fault::NoSuchPlace;
-use crate::segment::{LATEST_END, MOST_SEGMENTS, NUMBERS, Segment};
+use crate::limits::{LATEST_END, is_too_many};
+use crate::run::Run;
+use crate::segment::Segment;
 use crate::timeline::Timeline;
 
 // The longest duration.
-const LONGEST: u64 = 4_294_967_295;
+const LONGEST: u64 = u32::MAX as u64;
 
 impl Even {
     // As many segments as begin within the period, or none where they would pass the limits.
     pub fn new(first: u32, duration: u64, period: u64) -> Even
         ensures { of_even result ≡ even_list first duration period }
     {
-        if duration >= 1 && duration <= LONGEST {
+        if (1..=LONGEST).contains(&duration) {
             let count = period.div_ceil(duration);
-            if count <= MOST_SEGMENTS
-                && first as u64 + count <= NUMBERS
-                && count * duration <= LATEST_END
-            {
-                return Even {
-                    first,
-                    duration,
+            if !is_too_many(first, count) && count * duration <= LATEST_END {
+                let run = Run {
+                    start: 0,
+                    length: duration,
                     count: count as u32,
                 };
+                return Even { first, run };
             }
         }
+        let none = Run {
+            start: 0,
+            length: 1,
+            count: 0,
+        };
         Even {
             first: 0,
-            duration: 1,
-            count: 0,
+            run: none,
         }
     }
 }
@@ -43,22 +47,18 @@ impl Timeline for Even {
     ghost sound = { sound_even };
 
     fn count(&self) -> u32 {
-        self.count
+        self.run.count
     }
 
     fn segment(&self, place: u32) -> Result<Segment, NoSuchPlace> {
-        if place < self.count {
-            Ok(Segment {
-                number: self.first + place,
-                start: place as u64 * self.duration,
-                length: self.duration,
-            })
+        if place < self.run.count {
+            Ok(self.run.nth(self.first, place))
         } else {
             Err(NoSuchPlace)
         }
     }
 
     fn ended(&self, tick: u64) -> u32 {
-        (tick / self.duration).min(self.count as u64) as u32
+        self.run.ended(tick)
     }
 }

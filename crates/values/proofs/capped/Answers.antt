@@ -1,25 +1,25 @@
--- One digit more is read.
-use Rattle.std.proofs.Common.{◌+◌, ◌*◌, min, ap, ◌∙◌, arith}
-use Rattle.std.proofs.lemmas.List.{at_drop_all}
-use Rattle.values.proofs.Numbers.{onward, onward_none, digit_here, cut_more}
+-- Each digit is read behind those before it.
+use Rattle.std.proofs.Common.{◌≡◌, ℕ, ◌+◌, ◌*◌, ◌-◌, ◌≤◌, min, true, List, [], ◌∷◌, Iter, sym, ap, ◌∙◌, arith, rules}
+use Rattle.std.specs.Iterator.{Yields}
+use Rattle.std.proofs.iter.Yields.{fronts}
+use Rattle.std.proofs.lemmas.Fn.{serves_by, slice_gives, fold_over}
+use denote.Ref.{Bor}
+use Rattle.values.specs.Whole.{digits, decimal}
+use Rattle.values.proofs.Numbers.{digits_head, decimal_push}
 use Rattle.values.proofs.capped.Goals as goal
 
-pub loop-b-init : goal.loop-b-init
-loop-b-init c = (omega arith, c.requires.digits, ap (λ k. min k c.args.most) (onward_none c.args.text.now))
+digits_left : (xs : List (Bor ℕ)) (s t : Iter ℕ) → digits s.rest.now ≡ true → Yields fronts s xs t → digits t.rest.now ≡ true
+digits_left [] s t h y = ap (λ i. digits i.rest.now) (sym y) ∙ h
+digits_left (x ∷ xs) s t h (j, k, y) = digits_left xs j t (digits_head x.now j.rest.now (ap digits (sym k) ∙ h)).2 y
 
-pub overflow_sub-b : goal.overflow_sub-b
-overflow_sub-b c = (digit_here c.args.text.now c.loop-b.b-index c.loop-b-test.true c.loop-b.invariant.1).0
-
-pub loop-b-preserved : goal.loop-b-preserved
-loop-b-preserved c =
-    let s = c.args.text.now in
-    let i = c.loop-b.b-index in (
-      omega (arith, c.min-n.ensures),
-      (digit_here s i c.loop-b-test.true c.loop-b.invariant.1).2,
-      cut_more s i c.loop-b-test.true c.loop-b.n c.args.most c.min-n.result (c.min-n.ensures ∙ ap (λ d. min (c.loop-b.n * 10 + d) c.args.most) c.from.ensures) ∙ c.loop-b.invariant.2,
-    )
+pub fold-requires-clause-callable : goal.fold-requires-clause-callable
+fold-requires-clause-callable c =
+    serves_by _ (λ _ q. (q.0.0.now ≡ c.args.most) × (q.1 ≤ c.args.most)) (λ xs q x v k r. search rules) _ _ _ _ (search rules)
+    (λ xs t q x u y s k. let d = digits_head x.now u.rest.now (ap digits (sym s) ∙ digits_left xs c.iter.result t (search rules) y) in search rules)
 
 pub returns : goal.returns
 returns c =
-    let e = at_drop_all (onward c.loop-b.n) c.args.text.now c.loop-b.b-index c.loop-b-test.false in
-    omega (arith, c.loop-b.invariant.2, ap (λ k. min k c.args.most) e, c.loop-b.invariant.0)
+    fold_over fronts (λ y. y.now) _ (λ ys a. a ≡ min (decimal ys) c.args.most) _
+    (λ ys a x b f' j k. let e : b ≡ min (a * 10 + (x.now - 48)) c.args.most = search rules in (omega (arith, decimal_push ys x.now), search rules))
+    _ _ _ _ (slice_gives c.iter.result) (omega arith) c.fold.ensures.ran
+    ∙ ap (λ l. min (decimal l) c.args.most) c.iter.ensures.rest

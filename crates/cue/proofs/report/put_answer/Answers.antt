@@ -8,4 +8,4 @@ use Rattle.cue.proofs.report.put_answer.Goals as goal
 pub returns-in-Err : goal.returns-in-Err
 returns-in-Err c =
     let text = ap (λ (n : ℕ). codes " -> refused " ++ padded 1 n) c.number.ensures ∙ ap answer_text (sym c.in-Err.is) in
-    subst (λ (t : List ℕ). Puts c.args.bytes.now c.args.mark.now.used t c.put_counted.new.bytes c.put_counted.new.mark.used c.put_counted.result) text c.put_counted.ensures
+    subst (λ (t : List ℕ). Puts c.args.bytes.now c.args.mark.now.used t c.put_labelled.new.bytes c.put_labelled.new.mark.used c.put_labelled.result) text c.put_labelled.ensures

@@ -12,13 +12,11 @@ returns-in_err-resolve c =
     let read = c.in_ok-read.ensures in
     let done = c.in_err-resolve.ensures in
     let rows = c.clear.ensures.capacity in
-    let opened = opens m (capacity c.args.runs.now) (capacity c.clear.new.self) c.args.at.period c.args.at.representation c.rows.result.now c.rows-2.result.now rows (Err c.in_err-resolve.field-0.0) (held c.resolve.new.runs) c.in_ok-read.field-0 (reading m (capacity c.args.elements.now) (capacity c.args.attributes.now)) read.answer (c.rows.ensures ∙ read.elements.held) (c.rows-2.ensures ∙ read.attributes.held) done.answer done.runs in
+    let opened = opens m c.of.result.manifest.now (capacity c.args.runs.now) (capacity c.clear.new.self) c.args.at.period c.args.at.representation c.of.result.elements.now c.of.result.attributes.now c.of.ensures.manifest rows (Err c.in_err-resolve.field-0.0) (held c.resolve.new.runs) c.in_ok-read.field-0 (reading m (capacity c.args.rows.now.elements) (capacity c.args.rows.now.attributes)) read.answer (c.of.ensures.elements ∙ read.tables.elements.held) (c.of.ensures.attributes ∙ read.tables.attributes.held) done.answer done.runs.held in
     let e = err_from_is_err_and c.from_residual-in_err-resolve.result c.from_residual-in_err-resolve.ensures.1 in
     record {
       answer = rw (e.1, e.2) opened.0;
-      elements = read.elements;
-      attributes = read.attributes;
-      runs = record { held = opened.1; clean = done.clean; capacity = done.capacity ∙ rows; lent = done.lent ∙ c.clear.ensures.lent };
+      left = record { rows = read.tables; runs = record { held = opened.1; clean = done.runs.clean; capacity = done.runs.capacity ∙ rows; lent = done.runs.lent ∙ c.clear.ensures.lent } };
       whole = rw e.1 tt;
     }
 
@@ -28,11 +26,9 @@ returns c =
     let read = c.in_ok-read.ensures in
     let done = c.in_ok-resolve.ensures in
     let rows = c.clear.ensures.capacity in
-    let opened = opens m (capacity c.args.runs.now) (capacity c.clear.new.self) c.args.at.period c.args.at.representation c.rows.result.now c.rows-2.result.now rows (Ok (values_of c.in_ok-resolve.field-0)) (held c.resolve.new.runs) c.in_ok-read.field-0 (reading m (capacity c.args.elements.now) (capacity c.args.attributes.now)) read.answer (c.rows.ensures ∙ read.elements.held) (c.rows-2.ensures ∙ read.attributes.held) done.answer done.runs in
+    let opened = opens m c.of.result.manifest.now (capacity c.args.runs.now) (capacity c.clear.new.self) c.args.at.period c.args.at.representation c.of.result.elements.now c.of.result.attributes.now c.of.ensures.manifest rows (Ok (values_of c.in_ok-resolve.field-0)) (held c.resolve.new.runs) c.in_ok-read.field-0 (reading m (capacity c.args.rows.now.elements) (capacity c.args.rows.now.attributes)) read.answer (c.of.ensures.elements ∙ read.tables.elements.held) (c.of.ensures.attributes ∙ read.tables.attributes.held) done.answer done.runs.held in
     record {
       answer = opened.0;
-      elements = read.elements;
-      attributes = read.attributes;
-      runs = record { held = opened.1; clean = done.clean; capacity = done.capacity ∙ rows; lent = done.lent ∙ c.clear.ensures.lent };
+      left = record { rows = read.tables; runs = record { held = opened.1; clean = done.runs.clean; capacity = done.runs.capacity ∙ rows; lent = done.runs.lent ∙ c.clear.ensures.lent } };
       whole = done.whole;
     }

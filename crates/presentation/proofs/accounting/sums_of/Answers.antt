@@ -2,15 +2,10 @@ use Rattle.std.proofs.Common.{◌≡◌, ◌+◌, ◌≤◌, min, max, sum_by, a
 use Rattle.std.proofs.lemmas.List.{take_all}
 use Rattle.std.proofs.lemmas.List.Sums.{sum_by_more}
 use Rattle.timeline.specs.Runs.{no_run}
-use Rattle.presentation.proofs.Spans.{fair_end, sum_room}
+use Rattle.timeline.proofs.Walks.{fair_at}
+use Rattle.presentation.proofs.Spans.{sum_room}
 use Rattle.presentation.proofs.Wholes.{early, late, whole, parts_fit, accounts}
 use Rattle.presentation.proofs.accounting.sums_of.Goals as goal
-
-pub overflow_mul-end : goal.overflow_mul-end
-overflow_mul-end c = omega (arith, fair_end 0 c.args.runs.now c.requires c.runs.run-index no_run c.runs-test.true)
-
-pub overflow_add-end : goal.overflow_add-end
-overflow_add-end c = omega (arith, fair_end 0 c.args.runs.now c.requires c.runs.run-index no_run c.runs-test.true)
 
 pub overflow_add-before : goal.overflow_add-before
 overflow_add-before c = omega (arith, c.runs.invariant.0, sum_room (λ n. min n c.args.offset) (λ m n h. omega arith) c.args.runs.now c.requires c.runs.run-index no_run c.runs-test.true)
@@ -25,7 +20,8 @@ pub runs-preserved : goal.runs-preserved
 runs-preserved c =
     let runs = c.args.runs.now in
     let i = c.runs.run-index in
-    let here = c.runs-test.true in (
+    let here = c.runs-test.true in
+    let within = (fair_at 0 runs c.requires i no_run here).1 in (
       omega (arith, c.runs.invariant.0, sum_by_more (early c.args.offset) runs i no_run here),
       omega (arith, c.runs.invariant.1, sum_by_more (late (c.args.offset + c.args.period)) runs i no_run here),
       omega (arith, c.runs.invariant.2, sum_by_more whole runs i no_run here),

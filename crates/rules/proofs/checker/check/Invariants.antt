@@ -1,10 +1,7 @@
-use Rattle.std.proofs.Common.{◌≡◌}
-use Rattle.tables.specs.Rows.{held, capacity, Clean}
+use Rattle.tables.specs.Leaving.{Filled}
+use Rattle.tree.specs.Trees.{on}
 use Rattle.rules.specs.Findings.{findings_below, no_finding}
 use Rattle.rules.proofs.checker.check.Given as goal
 
 abbrev pub invariant-rows : goal.invariant-rows
-invariant-rows l = (held l.table ≡ findings_below l.manifest l.elements l.attributes l.row)
-    × (capacity l.table ≡ capacity l.initial.table)
-    × Clean no_finding l.table
-    × (l.table.rows.ghost_name ≡ l.initial.table.rows.ghost_name)
+invariant-rows l = Filled no_finding l.fn.table (on findings_below l.tree l.row) l.table

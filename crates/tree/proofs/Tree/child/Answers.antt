@@ -1,56 +1,27 @@
-use Rattle.std.proofs.Common.{◌+◌, ◌≤◌, length, sym, refl, ◌∙◌, arith}
-use Rattle.std.proofs.lemmas.List.{at_drop_all}
-use Rattle.tree.specs.Laws.{Child}
-use Rattle.tree.specs.Questions.{child_from}
+use Rattle.std.proofs.Common.{◌≡◌, ◌∙◌, ℕ, slice_get, List, Some, None, Option, sym, ap, subst}
+use Rattle.std.specs.Iterator.{YieldsFirst}
+use Rattle.tree.specs.Laws.{FirstChild}
+use Rattle.tree.specs.Trees.{child_in}
+use Rattle.tree.proofs.Finds.{child_heads, child_told}
 use Rattle.tree.proofs.Tree.child.Goals as goal
-use Rattle.tree.proofs.Walk.{nowhere_more, child_fits, child_not, child_here, child_more}
+use Rattle.tree.proofs.Tree.child.Goals.{After-next}
 
--- there are no rows behind one that is not there
-pub returns-then-row-elements : goal.returns-then-row-elements
-returns-then-row-elements c =
-    let m = c.args.self.now.manifest.now in
-    let es = c.args.self.now.elements.now in
-    let e = c.args.row in
-    let past : length es ≤ e + 1 = omega arith in
-    record {
-      row = sym (at_drop_all (child_from m e c.args.name.now (e + 1)) es (e + 1) past);
-      first = λ i from below p. omega arith;
-    }
+-- what comes first is the head of the list
+head : (o : Option ℕ) (xs ys : List ℕ) → YieldsFirst (λ rows. rows) xs o ys → o ≡ slice_get xs 0
+head None xs ys h = ap (λ l. slice_get l 0) (sym h.0)
+head (Some x) xs ys h = ap (λ l. slice_get l 0) (sym h)
 
-pub rows-init : goal.rows-init
-rows-init c = (refl, λ i from below p. omega arith)
+is : (c : After-next) → c.next.result ≡ child_in c.args.self.now c.args.row c.args.name.now
+is c =
+    let t = c.args.self.now in
+    head c.next.result c.children.result c.next.new.self c.next.ensures.steps
+    ∙ ap (λ l. slice_get l 0) c.children.ensures
+    ∙ child_heads t.manifest.now t.elements.now c.args.row c.args.name.now
 
-pub returns-then-child_is : goal.returns-then-child_is
-returns-then-child_is c =
-    let m = c.args.self.now.manifest.now in
-    let es = c.args.self.now.elements.now in
-    let e = c.args.row in
-    let n = c.args.name.now in
-    let i = c.rows.later in
-    let within = c.rows-test.true in
-    let fits = c.if-child_is.ensures in
-    record {
-      row = sym (c.rows.invariant.0 ∙ child_here m e n es i within fits);
-      first = record { from = omega arith; below = within; here = child_fits m e n es i fits; before = c.rows.invariant.1 };
-    }
+pub returns-clause-row : goal.returns-clause-row
+returns-clause-row c = is (goal.at.returns-clause-row c).After-next
 
-pub rows-preserved : goal.rows-preserved
-rows-preserved c =
-    let m = c.args.self.now.manifest.now in
-    let es = c.args.self.now.elements.now in
-    let e = c.args.row in
-    let n = c.args.name.now in
-    let i = c.rows.later in
-    let other = c.if-child_is.ensures in (
-      c.rows.invariant.0 ∙ child_more m e n es i c.rows-test.true other,
-      nowhere_more (Child m e n es) (e + 1) i c.rows.invariant.1 (child_not m e n es i other),
-    )
-
-pub returns : goal.returns
-returns c =
-    let m = c.args.self.now.manifest.now in
-    let es = c.args.self.now.elements.now in
-    record {
-      row = sym (c.rows.invariant.0 ∙ at_drop_all (child_from m c.args.row c.args.name.now c.rows.later) es c.rows.later c.rows-test.false);
-      first = λ i from below. c.rows.invariant.1 i from (omega arith);
-    }
+pub returns-clause-first : goal.returns-clause-first
+returns-clause-first c =
+    let t = c.args.self.now in
+    subst (FirstChild t.manifest.now c.args.row c.args.name.now t.elements.now) (sym (is (goal.at.returns-clause-first c).After-next)) (child_told t.manifest.now t.elements.now c.args.row c.args.name.now)

@@ -1,108 +1,41 @@
-use Rattle.std.proofs.Common.{◌≡◌, ◌+◌, ◌<◌, true, false, length, get_or, drop, sym, refl, ap, ◌∙◌, arith}
-use Rattle.std.specs.List.{prefix_len}
-use Rattle.std.proofs.lemmas.Result.{err_from_is_err_and}
-use Rattle.tables.specs.Rows.{held}
-use Rattle.reader.specs.Bytes.{blank, begins}
-use Rattle.reader.specs.Machine.{document, outside, shut}
-use Rattle.reader.proofs.Names.{names_same, closing_other, closing_on}
-use Rattle.reader.proofs.Outside.{close_ends, close_other, close_name, to_closed}
+use Rattle.std.proofs.Common.{sym, refl, ap, ◌∙◌}
+use Rattle.std.proofs.lemmas.Bool.{cond-false}
+use Rattle.reader.specs.Bytes.{begins}
+use Rattle.reader.specs.Machine.{outside, shut}
+use Rattle.reader.specs.Rows.{documented, after}
+use Rattle.reader.proofs.Cursor.{handed, blames, lacks}
+use Rattle.reader.proofs.Gaining.{gained_after}
+use Rattle.reader.proofs.Names.{names_told, closing_other, closing_on}
+use Rattle.reader.proofs.Outside.{close_name, to_closed}
 use Rattle.reader.proofs.lexer.markup.close_element.Goals as goal
 
-pub returns-in_default : goal.returns-in_default
-returns-in_default c = record {
-  src = refl;
-  further = omega arith;
-  goes = λ E A xs.
-      let ends = close_ends c.args.reader.now.src.now E A (document (held c.args.elements.now) xs c.args.nesting.now.inner c.args.nesting.now.depth) c.args.reader.now.pos (omega (arith, c.in_default.ensures)) in
-      cc;
-}
+pub returns-in_err-need-clause-goes : goal.returns-in_err-need-clause-goes
+returns-in_err-need-clause-goes c =
+    handed _ _ _ _ c.from_residual.ensures.1 (lacks _ _ begins c.args.reader.now c.in_err-need.ensures _ (λ b n. cond-false _ _ _ n) refl)
 
-pub returns-then-not-is_first : goal.returns-then-not-is_first
-returns-then-not-is_first c =
-    let byte = c.in-Some.ensures in
-    record {
-      src = refl;
-      further = omega arith;
-      goes = λ E A xs.
-          let other = close_other c.args.reader.now.src.now E A (document (held c.args.elements.now) xs c.args.nesting.now.inner c.args.nesting.now.depth) c.args.reader.now.pos byte.0 (ap begins (sym byte.1) ∙ sym c.if-not-is_first.ensures) in
-          cc;
-    }
+pub returns-then-not-same-clause-goes : goal.returns-then-not-same-clause-goes
+returns-then-not-same-clause-goes c =
+    let token = c.token-name.ensures in
+    close_name _ _ _ c.in_ok-need.ensures
+    ∙ closing_other _ _ _ token.ran (names_told _ _ _ _ _ _ _ c.innermost-open.ensures c.part.ensures token.text c.if-not-same.ensures)
+    ∙ blames _ _ _ _ c.at.ensures token.at
 
-pub returns-then-not-same : goal.returns-then-not-same
-returns-then-not-same c =
-    let t = c.token-name in
-    let m = c.args.reader.now.src.now in
-    let p = c.args.reader.now.pos in
-    let end = t.new.self.pos in
-    let byte = c.in-Some.ensures in
-    let begun = ap begins (sym byte.1) ∙ sym c.if-not-is_first.ensures in
-    record {
-      src = t.ensures.src;
-      further = omega (arith, t.ensures.pos);
-      goes = λ E A xs.
-          let d = document (held c.args.elements.now) xs c.args.nesting.now.inner c.args.nesting.now.depth in
-          let first = close_name m E A d p byte.0 begun in
-          let is = names_same m _ (held c.args.elements.now) _ c.args.nesting.now.inner _ _ _ _ false t.ensures.src c.rows.ensures c.element_at-open.ensures c.part.ensures t.ensures.text c.if-not-same.ensures in
-          let other = closing_other m E A d p end t.ensures.pos t.ensures.stops is in
-          let at = t.ensures.at in
-          cc;
-    }
+pub returns-in_err-expect-clause-goes : goal.returns-in_err-expect-clause-goes
+returns-in_err-expect-clause-goes c =
+    let token = c.token-name.ensures in
+    handed _ _ _ _ c.from_residual-in_err-expect.ensures.1
+    (close_name _ _ _ c.in_ok-need.ensures
+    ∙ closing_on _ _ _ token.ran (names_told _ _ _ _ _ _ _ c.innermost-open.ensures c.part.ensures token.text c.if-not-same.ensures)
+    ∙ to_closed _ _ _ c.token.ensures.ran
+    ∙ c.in_err-expect.ensures.goes _ _ (outside (shut (documented c.args.rows.now))))
 
-pub returns-in_err-expect : goal.returns-in_err-expect
-returns-in_err-expect c =
-    let t = c.token-name in
-    let m = c.args.reader.now.src.now in
-    let p = c.args.reader.now.pos in
-    let end = t.new.self.pos in
-    let byte = c.in-Some.ensures in
-    let begun = ap begins (sym byte.1) ∙ sym c.if-not-is_first.ensures in
-    let u = c.token in
-    let q = u.new.self.pos in
-    let same = u.ensures.src ∙ t.ensures.src in
-    let far : q ≡ end + prefix_len blank (drop end m) = u.ensures.pos ∙ ap (λ l. end + prefix_len blank (drop end l)) t.ensures.src in
-    let stops : q < length m → blank (get_or m q 0) ≡ false = λ h. ap (λ l. blank (get_or l q 0)) (sym t.ensures.src) ∙ u.ensures.stops (omega (arith, ap length t.ensures.src)) in
-    let back = c.in_err-expect.ensures in
-    let err = err_from_is_err_and c.from_residual.result c.from_residual.ensures.1 in
-    rw (err.1, err.2) record {
-      src = back.src ∙ same;
-      further = omega (arith, t.ensures.pos, u.ensures.pos, back.further);
-      goes = λ E A xs.
-          let d = document (held c.args.elements.now) xs c.args.nesting.now.inner c.args.nesting.now.depth in
-          let first = close_name m E A d p byte.0 begun in
-          let is = names_same m _ (held c.args.elements.now) _ c.args.nesting.now.inner _ _ _ _ true t.ensures.src c.rows.ensures c.element_at-open.ensures c.part.ensures t.ensures.text c.if-not-same.ensures in
-          let on = closing_on m E A d p end t.ensures.pos t.ensures.stops is in
-          let blanks = to_closed m E A d end q far stops in
-          let word = back.goes E A (outside (shut d)) in
-          let bytes = same in
-          cc;
-    }
-
-pub returns : goal.returns
-returns c =
-    let t = c.token-name in
-    let m = c.args.reader.now.src.now in
-    let p = c.args.reader.now.pos in
-    let end = t.new.self.pos in
-    let byte = c.in-Some.ensures in
-    let begun = ap begins (sym byte.1) ∙ sym c.if-not-is_first.ensures in
-    let u = c.token in
-    let q = u.new.self.pos in
-    let same = u.ensures.src ∙ t.ensures.src in
-    let far : q ≡ end + prefix_len blank (drop end m) = u.ensures.pos ∙ ap (λ l. end + prefix_len blank (drop end l)) t.ensures.src in
-    let stops : q < length m → blank (get_or m q 0) ≡ false = λ h. ap (λ l. blank (get_or l q 0)) (sym t.ensures.src) ∙ u.ensures.stops (omega (arith, ap length t.ensures.src)) in
-    let back = c.in_ok-expect.ensures in
-    record {
-      src = back.src ∙ same;
-      further = omega (arith, t.ensures.pos, u.ensures.pos, back.further);
-      goes = λ E A xs.
-          let d = document (held c.args.elements.now) xs c.args.nesting.now.inner c.args.nesting.now.depth in
-          let first = close_name m E A d p byte.0 begun in
-          let is = names_same m _ (held c.args.elements.now) _ c.args.nesting.now.inner _ _ _ _ true t.ensures.src c.rows.ensures c.element_at-open.ensures c.part.ensures t.ensures.text c.if-not-same.ensures in
-          let on = closing_on m E A d p end t.ensures.pos t.ensures.stops is in
-          let blanks = to_closed m E A d end q far stops in
-          let word = back.goes E A (outside (shut d)) in
-          let bytes = same in
-          let inner = c.element_at-open.ensures in
-          let rows = c.rows.ensures in
-          cc;
-    }
+pub returns-clause-goes : goal.returns-clause-goes
+returns-clause-goes c =
+    let token = c.token-name.ensures in
+    let r = c.expect.new.self in
+    close_name _ _ _ c.in_ok-need.ensures
+    ∙ closing_on _ _ _ token.ran (names_told _ _ _ _ _ _ _ c.innermost-open.ensures c.part.ensures token.text c.if-not-same.ensures)
+    ∙ to_closed _ _ _ c.token.ensures.ran
+    ∙ c.in_ok-expect.ensures.goes _ _ (outside (shut (documented c.args.rows.now)))
+    ∙ ap (λ d. after r c.args.rows.now (outside d)) (sym c.close.ensures.shut)
+    ∙ gained_after c.close.ensures.gained r (outside (documented c.close.new.self))

@@ -1,181 +1,82 @@
-use Rattle.std.proofs.Common.{◌+◌, ◌-◌, [], ◌∷◌, ◌++◌, length, sym, ap, ◌∙◌, arith}
-use Rattle.std.proofs.lemmas.Result.{err_from_is_err_and}
+use Rattle.std.proofs.Common.{◌≡◌, ◌-◌, false, length, sym, ap, ◌∙◌}
 use Rattle.std.proofs.lemmas.Bool.{le-leb, lt-leb}
 use Rattle.tables.specs.Rows.{held, capacity}
 use Rattle.tables.specs.Zero.{span}
-use Rattle.reader.specs.Machine.{document, refused}
-use Rattle.reader.specs.declared.fault.ReadRefusal.TheVariants.{ElementsFull}
-use Rattle.reader.proofs.Elements.{behind_empty, text_refused, behind_text}
-use Rattle.reader.proofs.Keeping.{kept_same}
+use Rattle.tables.specs.declared.span.Span.{Span}
+use Rattle.reader.specs.Machine.{outside, naming, tag, opened, emptied}
+use Rattle.reader.specs.Rows.{documented, after}
+use Rattle.reader.specs.Tags.{leads}
+use Rattle.reader.proofs.Cursor.{handed, blames, spans}
+use Rattle.reader.proofs.Gaining.{gained_after, attributed_room, roomy}
 use Rattle.reader.proofs.Names.{naming_deep, naming_full, naming_on}
 use Rattle.reader.proofs.lexer.markup.read_element.Goals as goal
+use Rattle.reader.proofs.lexer.markup.read_element.Goals.{After-rest_of_tag}
 
-pub returns-then-nesting-ge-LEVELS : goal.returns-then-nesting-ge-LEVELS
-returns-then-nesting-ge-LEVELS c =
-    let t = c.token-name in
-    let m = c.args.reader.now.src.now in
-    let p = c.args.reader.now.pos in
-    let end = t.new.self.pos in
-    let E = capacity c.args.elements.now in
-    let A = capacity c.args.attributes.now in
-    let es = held c.args.elements.now in
-    let o = c.args.nesting.now.inner in
-    let k = c.args.nesting.now.depth in
-    let d = document es (held c.args.attributes.now) o k in
-    let at = t.ensures.at in
-    let byte = c.saturating_sub-byte.ensures in
-    record {
-      src = t.ensures.src;
-      further = omega (arith, t.ensures.pos);
-      elements = kept_same c.args.elements.now;
-      attributes = kept_same c.args.attributes.now;
-      goes =
-          let deep = naming_deep m E A d p end t.ensures.pos t.ensures.stops (le-leb 16 k c.if-nesting-ge-LEVELS.true) in
-          cc;
-    }
+pub returns-then-rows-ge-LEVELS-clause-goes : goal.returns-then-rows-ge-LEVELS-clause-goes
+returns-then-rows-ge-LEVELS-clause-goes c =
+    let token = c.token-name.ensures in
+    naming_deep _ _ _ token.ran (le-leb 16 c.args.rows.now.depth c.if-rows-ge-LEVELS.true)
+    ∙ blames _ _ _ _ c.at.ensures (c.saturating_sub-byte.ensures ∙ ap (λ n. n - 1) token.at)
 
-pub returns-then-is_full : goal.returns-then-is_full
-returns-then-is_full c =
-    let t = c.token-name in
-    let m = c.args.reader.now.src.now in
-    let p = c.args.reader.now.pos in
-    let end = t.new.self.pos in
-    let E = capacity c.args.elements.now in
-    let A = capacity c.args.attributes.now in
-    let es = held c.args.elements.now in
-    let o = c.args.nesting.now.inner in
-    let k = c.args.nesting.now.depth in
-    let d = document es (held c.args.attributes.now) o k in
-    let at = t.ensures.at in
-    let byte = c.saturating_sub-byte.ensures in
-    record {
-      src = t.ensures.src;
-      further = omega (arith, t.ensures.pos);
-      elements = kept_same c.args.elements.now;
-      attributes = kept_same c.args.attributes.now;
-      goes =
-          naming_full m E A d p end t.ensures.pos t.ensures.stops (lt-leb 16 k c.if-nesting-ge-LEVELS.false) (sym c.if-is_full.ensures)
-          ∙ ap (λ b. refused ElementsFull b) (sym (byte ∙ ap (λ b. b - 1) at));
-    }
+pub returns-then-is_full-clause-goes : goal.returns-then-is_full-clause-goes
+returns-then-is_full-clause-goes c =
+    let token = c.token-name.ensures in
+    naming_full _ _ _ token.ran (lt-leb 16 c.args.rows.now.depth c.if-rows-ge-LEVELS.false) (sym c.if-is_full.ensures)
+    ∙ blames _ _ _ _ c.at-then-is_full.ensures (c.saturating_sub-byte.ensures ∙ ap (λ n. n - 1) token.at)
 
-pub returns-in_err-empty : goal.returns-in_err-empty
-returns-in_err-empty c =
-    let t = c.token-name in
-    let m = c.args.reader.now.src.now in
-    let p = c.args.reader.now.pos in
-    let end = t.new.self.pos in
-    let E = capacity c.args.elements.now in
-    let A = capacity c.args.attributes.now in
-    let es = held c.args.elements.now in
-    let o = c.args.nesting.now.inner in
-    let k = c.args.nesting.now.depth in
-    let d = document es (held c.args.attributes.now) o k in
-    let at = t.ensures.at in
-    let byte = c.saturating_sub-byte.ensures in
-    let back = c.in_err-empty.ensures in
-    let err = err_from_is_err_and c.from_residual.result c.from_residual.ensures.1 in
-    rw (err.1, err.2) record {
-      src = back.src ∙ t.ensures.src;
-      further = omega (arith, t.ensures.pos, back.further);
-      elements = kept_same c.args.elements.now;
-      attributes = back.kept;
-      goes =
-          let on = naming_on m E A d p end t.ensures.pos t.ensures.stops (lt-leb 16 k c.if-nesting-ge-LEVELS.false) (sym c.if-is_full.ensures) in
-          let bytes = t.ensures.src in
-          let len = t.ensures.len in
-          let tags = back.goes E es o k (span p (end - p)) (sym c.len-row.ensures) in
-          cc;
-    }
+-- the name ends, and the element has its level and its row
+module _ (c : After-rest_of_tag) where
+  abbrev name : Span
+  name = span c.args.reader.now.pos (c.token-name.new.self.pos - c.args.reader.now.pos)
 
-pub returns-then-empty : goal.returns-then-empty
-returns-then-empty c =
-    let t = c.token-name in
-    let m = c.args.reader.now.src.now in
-    let p = c.args.reader.now.pos in
-    let end = t.new.self.pos in
-    let E = capacity c.args.elements.now in
-    let A = capacity c.args.attributes.now in
-    let es = held c.args.elements.now in
-    let o = c.args.nesting.now.inner in
-    let k = c.args.nesting.now.depth in
-    let d = document es (held c.args.attributes.now) o k in
-    let at = t.ensures.at in
-    let byte = c.saturating_sub-byte.ensures in
-    let on = naming_on m E A d p end t.ensures.pos t.ensures.stops (lt-leb 16 k c.if-nesting-ge-LEVELS.false) (sym c.if-is_full.ensures) in
-    let back = c.in_ok-empty.ensures in
-    let xs = held c.rest_of_tag.new.attributes in
-    let next = c.rest_of_tag.new.reader.pos in
-    let e = span p (end - p) in
-    let tags = back.goes E es o k e (sym c.len-row.ensures) in
-    let whole = ap (λ n. span n (length t.result.text.now)) at ∙ ap (λ n. span p n) t.ensures.len in
-    let added = c.in_ok-add.ensures in
-    record {
-      src = back.src ∙ t.ensures.src;
-      further = omega (arith, t.ensures.pos, back.further);
-      elements = added.elements;
-      attributes = back.kept;
-      goes = behind_empty m _ E A d (document es xs o k) e p end next c.in_ok-empty.empty t.ensures.src on tags c.if-empty.true (held c.add.new.elements) (added.answer ∙ ap (λ n. es ++ (record { name = n; parent = o; level = k + 1; text = span 0 0 } ∷ [])) (c.span.ensures ∙ whole));
-    }
+  named : after c.args.reader.now c.args.rows.now (naming (documented c.args.rows.now) c.args.reader.now.pos) ≡ after c.token-name.new.self c.args.rows.now (tag (documented c.args.rows.now) name false)
+  named = naming_on _ _ _ c.token-name.ensures.ran (lt-leb 16 c.args.rows.now.depth c.if-rows-ge-LEVELS.false) (sym c.if-is_full.ensures)
 
-pub returns-in_err-text : goal.returns-in_err-text
-returns-in_err-text c =
-    let t = c.token-name in
-    let m = c.args.reader.now.src.now in
-    let p = c.args.reader.now.pos in
-    let end = t.new.self.pos in
-    let E = capacity c.args.elements.now in
-    let A = capacity c.args.attributes.now in
-    let es = held c.args.elements.now in
-    let o = c.args.nesting.now.inner in
-    let k = c.args.nesting.now.depth in
-    let d = document es (held c.args.attributes.now) o k in
-    let at = t.ensures.at in
-    let byte = c.saturating_sub-byte.ensures in
-    let on = naming_on m E A d p end t.ensures.pos t.ensures.stops (lt-leb 16 k c.if-nesting-ge-LEVELS.false) (sym c.if-is_full.ensures) in
-    let back = c.in_ok-empty.ensures in
-    let xs = held c.rest_of_tag.new.attributes in
-    let next = c.rest_of_tag.new.reader.pos in
-    let e = span p (end - p) in
-    let tags = back.goes E es o k e (sym c.len-row.ensures) in
-    let whole = ap (λ n. span n (length t.result.text.now)) at ∙ ap (λ n. span p n) t.ensures.len in
-    let words = c.in_err-text.ensures in
-    let err = err_from_is_err_and c.from_residual-in_err-text.result c.from_residual-in_err-text.ensures.1 in
-    rw (err.1, err.2) record {
-      src = words.src ∙ back.src ∙ t.ensures.src;
-      further = omega (arith, t.ensures.pos, back.further, words.further);
-      elements = kept_same c.args.elements.now;
-      attributes = back.kept;
-      goes = text_refused m _ E A d (document es xs o k) e p end next c.in_ok-empty.empty t.ensures.src on tags c.if-empty.false _ (back.src ∙ t.ensures.src) _ (words.goes E A (document es xs o k) e);
-    }
+pub returns-in_err-rest_of_tag-clause-goes : goal.returns-in_err-rest_of_tag-clause-goes
+returns-in_err-rest_of_tag-clause-goes c =
+    let before = (goal.at.returns-in_err-rest_of_tag-clause-goes c).After-rest_of_tag in
+    handed _ _ _ _ c.from_residual.ensures.1 (named before ∙ c.in_err-rest_of_tag.ensures.goes (name before))
 
-pub returns : goal.returns
-returns c =
-    let t = c.token-name in
-    let m = c.args.reader.now.src.now in
-    let p = c.args.reader.now.pos in
-    let end = t.new.self.pos in
-    let E = capacity c.args.elements.now in
-    let A = capacity c.args.attributes.now in
-    let es = held c.args.elements.now in
-    let o = c.args.nesting.now.inner in
-    let k = c.args.nesting.now.depth in
-    let d = document es (held c.args.attributes.now) o k in
-    let at = t.ensures.at in
-    let byte = c.saturating_sub-byte.ensures in
-    let on = naming_on m E A d p end t.ensures.pos t.ensures.stops (lt-leb 16 k c.if-nesting-ge-LEVELS.false) (sym c.if-is_full.ensures) in
-    let back = c.in_ok-empty.ensures in
-    let xs = held c.rest_of_tag.new.attributes in
-    let next = c.rest_of_tag.new.reader.pos in
-    let e = span p (end - p) in
-    let tags = back.goes E es o k e (sym c.len-row.ensures) in
-    let whole = ap (λ n. span n (length t.result.text.now)) at ∙ ap (λ n. span p n) t.ensures.len in
-    let words = c.in_ok-text.ensures in
-    let added = c.in_ok-add-2.ensures in
-    let s = span c.in_ok-text.text.at (length c.in_ok-text.text.text.now) in
-    record {
-      src = words.src ∙ back.src ∙ t.ensures.src;
-      further = omega (arith, t.ensures.pos, back.further, words.further);
-      elements = added.elements;
-      attributes = back.kept;
-      goes = behind_text m _ E A d (document es xs o k) e p end next c.in_ok-empty.empty t.ensures.src on tags c.if-empty.false _ (back.src ∙ t.ensures.src) s c.text.new.self.pos (words.goes E A (document es xs o k) e) (held c.add-2.new.elements) (added.answer ∙ ap (λ n. es ++ (record { name = n; parent = o; level = k + 1; text = c.span-words.result } ∷ [])) (c.span-2.ensures ∙ whole) ∙ ap (λ n. es ++ (record { name = e; parent = o; level = k + 1; text = n } ∷ [])) c.span-words.ensures) c.len-row.result c.len-row.ensures;
-    }
+pub returns-in_err-text-in-Open-clause-goes : goal.returns-in_err-text-in-Open-clause-goes
+returns-in_err-text-in-Open-clause-goes c =
+    let before = (goal.at.returns-in_err-text-in-Open-clause-goes c).After-rest_of_tag in
+    let e = name before in
+    let u = c.rest_of_tag.new.rows in
+    let p = c.rest_of_tag.new.reader in
+    let opens = c.in_ok-rest_of_tag.ensures.goes e ∙ ap (λ end. after p u (leads end (documented u) e p.pos)) c.in-Open.is in
+    handed _ _ _ _ c.from_residual-in_err-text-in-Open.ensures.1 (named before ∙ opens ∙ c.in_err-text-in-Open.ensures.goes (capacity u.elements.now) (capacity u.attributes.now) (documented u) e)
+
+pub returns-in-Empty-clause-goes : goal.returns-in-Empty-clause-goes
+returns-in-Empty-clause-goes c =
+    let before = (goal.at.returns-in-Empty-clause-goes c).After-rest_of_tag in
+    let e = name before in
+    let token = c.token-name.ensures in
+    let back = c.in_ok-rest_of_tag.ensures in
+    let u = c.rest_of_tag.new.rows in
+    let p = c.rest_of_tag.new.reader in
+    let ends = back.goes e ∙ ap (λ end. after p u (leads end (documented u) e p.pos)) c.in-Empty.is in
+    roomy (capacity u.elements.now) (length (held u.elements.now)) c.add_element.result _ _ c.add_element.ensures.answer (attributed_room back.attributed c.if-is_full.ensures) (λ row.
+    named before
+    ∙ ends
+    ∙ ap (λ s. after p u (outside (emptied (documented u) s))) (sym (spans _ _ _ _ _ c.span.ensures token.at token.len))
+    ∙ ap (λ x. after p u (outside x)) (sym row)
+    ∙ gained_after c.add_element.ensures.gained p (outside (documented c.add_element.new.self)))
+
+pub returns-in_ok-text-in-Open-clause-goes : goal.returns-in_ok-text-in-Open-clause-goes
+returns-in_ok-text-in-Open-clause-goes c =
+    let before = (goal.at.returns-in_ok-text-in-Open-clause-goes c).After-rest_of_tag in
+    let e = name before in
+    let token = c.token-name.ensures in
+    let back = c.in_ok-rest_of_tag.ensures in
+    let u = c.rest_of_tag.new.rows in
+    let p = c.rest_of_tag.new.reader in
+    let x = c.text.new.self in
+    let opens = back.goes e ∙ ap (λ end. after p u (leads end (documented u) e p.pos)) c.in-Open.is in
+    roomy (capacity u.elements.now) (length (held u.elements.now)) c.open.result _ _ c.open.ensures.answer (attributed_room back.attributed c.if-is_full.ensures) (λ row.
+    named before
+    ∙ opens
+    ∙ c.in_ok-text-in-Open.ensures.goes (capacity u.elements.now) (capacity u.attributes.now) (documented u) e
+    ∙ ap (λ s. after x u (outside (opened (documented u) e s))) (sym c.span-in-Open-2.ensures)
+    ∙ ap (λ s. after x u (outside (opened (documented u) s c.span-in-Open-2.result))) (sym (spans _ _ _ _ _ c.span-in-Open.ensures token.at token.len))
+    ∙ ap (λ y. after x u (outside y)) (sym row)
+    ∙ gained_after c.open.ensures.gained x (outside (documented c.open.new.self)))

@@ -6,8 +6,8 @@ use Rattle.timeline.proofs.Asked.{begins_at, waits_at, within_is}
 use Rattle.timeline.proofs.Writes.{moved, refused}
 use Rattle.timeline.proofs.addressed.Addressed.write_address_within.Goals as goal
 
-pub returns-then-is_under_way : goal.returns-then-is_under_way
-returns-then-is_under_way g c =
+pub returns : goal.returns
+returns g c =
     let t = c.args.self.now in
     let xs = g.Self.Timeline.segments t in
     let ok = g.Self.Timeline.sound t in
@@ -20,14 +20,14 @@ returns-then-is_under_way g c =
     let address = g.Self.Addressed.address t in
     let begun = counts_begun xs ok to b refl in
     let many = within_is xs from k (counts_split xs ok from k refl) to b begun in
-    let there = begins_at xs p to c.is_under_way.result (c.is_under_way.ensures ∙ ap (under_way to) c.segment.ensures) c.if-is_under_way.true in
+    let there = begins_at xs p to c.is_under_way.result (c.is_under_way.ensures ∙ ap (under_way to) c.segment.ensures) c.if-not-is_under_way.false in
     let e : p ≡ k + n = omega (arith, ok.few, there.0, c.saturating_add-place.ensures, c.ended.ensures) in
     let before : p < b = elim (cases_lt p b) [ inl l ↦ l | inr l ↦ absurd (omega (arith, begun.after p blank l there.0, there.1)) ] in
     moved (length xs) (within_of xs from to) p n (address p) (address (k + n)) c.args.bytes.now c.write_address.new.bytes c.args.mark.now.used c.write_address.new.mark.used c.write_address.result
     (λ h. there.0) (λ h. absurd (omega arith)) (λ _. ap address e) c.write_address.ensures
 
-pub returns-else-is_under_way : goal.returns-else-is_under_way
-returns-else-is_under_way g c =
+pub returns-then-not-is_under_way : goal.returns-then-not-is_under_way
+returns-then-not-is_under_way g c =
     let t = c.args.self.now in
     let xs = g.Self.Timeline.segments t in
     let ok = g.Self.Timeline.sound t in
@@ -43,8 +43,8 @@ returns-else-is_under_way g c =
       | inl l ↦
           let e : p ≡ k + n = omega (arith, ok.few, begun.within, c.saturating_add-place.ensures, c.ended.ensures) in
           let within : p < length xs = omega (arith, begun.within) in
-          let waits = waits_at xs p to c.is_under_way.result (c.is_under_way.ensures ∙ ap (under_way to) c.segment.ensures) c.if-is_under_way.false within in
+          let waits = waits_at xs p to c.is_under_way.result (c.is_under_way.ensures ∙ ap (under_way to) c.segment.ensures) c.if-not-is_under_way.true within in
           absurd (omega (arith, begun.before p blank (omega arith)))
       | inr l ↦ l
     ] in
-    refused (within_of xs from to) n (g.Self.Addressed.address t (k + n)) c.args.bytes.now c.args.mark.now.used (omega arith)
+    rw c.into.ensures (refused (within_of xs from to) n (g.Self.Addressed.address t (k + n)) c.args.bytes.now c.args.mark.now.used (omega arith))

@@ -14,7 +14,7 @@ returns-then-from-self g c =
     let ys = cut_off s.at xs in
     let from = c.args.from in
     let none = within_past xs ok s.at from c.args.to c.if-from-self.true in
-    refused (within_of ys from c.args.to) c.args.nth (g.T.Addressed.address s.below (ended_by ys from + c.args.nth)) c.args.bytes.now c.args.mark.now.used (omega arith)
+    rw c.into.ensures (refused (within_of ys from c.args.to) c.args.nth (g.T.Addressed.address s.below (ended_by ys from + c.args.nth)) c.args.bytes.now c.args.mark.now.used (omega arith))
 
 pub returns : goal.returns
 returns g c =

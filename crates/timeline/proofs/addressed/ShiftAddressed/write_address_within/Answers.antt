@@ -13,7 +13,7 @@ returns-then-to-eq0 g c =
     let from = c.args.from in
     let e : c.args.to ≡ 0 = omega arith in
     let none = within_none ys from in
-    refused (within_of ys from c.args.to) c.args.nth (g.T.Addressed.address s.below (ended_by (g.T.Timeline.segments s.below) s.by + (ended_by ys from + c.args.nth))) c.args.bytes.now c.args.mark.now.used (rw e (omega arith))
+    rw c.into.ensures (refused (within_of ys from c.args.to) c.args.nth (g.T.Addressed.address s.below (ended_by (g.T.Timeline.segments s.below) s.by + (ended_by ys from + c.args.nth))) c.args.bytes.now c.args.mark.now.used (rw e (omega arith)))
 
 pub returns : goal.returns
 returns g c =

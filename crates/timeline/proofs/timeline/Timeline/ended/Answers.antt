@@ -1,9 +1,7 @@
-use Rattle.std.proofs.Common.{◌+◌, ◌-◌, ◌/◌, ◌<◌, length, get_or, ap, ◌∙◌, arith}
-use Rattle.std.proofs.lemmas.Bool.{leb-true, leb-false}
-use Rattle.timeline.specs.Segments.{end, over_by}
+use Rattle.std.proofs.Common.{◌+◌, ◌-◌, ◌/◌, ◌<◌, length, arith}
+use Rattle.std.proofs.lemmas.Bool.Decides.{nat_tests}
 use Rattle.timeline.specs.Laws.Splits.{split_counts}
-use Rattle.timeline.specs.Laws.Tellings.{ends_rise}
-use Rattle.timeline.proofs.Asked.{over_at}
+use Rattle.timeline.specs.Laws.Tellings.{told_at, ends_rise}
 use Rattle.timeline.proofs.timeline.Timeline.ended.Goals as goal
 
 pub loop-low-preserved-then-is_over : goal.loop-low-preserved-then-is_over
@@ -16,8 +14,9 @@ loop-low-preserved-then-is_over g c =
       omega arith,
       c.loop-low.invariant.1,
       (λ i d h.
-          let over = leb-true (end (get_or xs m d)) tick (over_at xs m tick d within c.is_over.result (c.is_over.ensures ∙ ap (over_by tick) c.segment.ensures) ∙ c.if-is_over.true) in
-          omega (arith, ends_rise xs ok i m d (omega arith) within)),
+          let told = told_at xs m d within in
+          let rise = ends_rise xs ok i m d (omega arith) within in
+          grind (arith, nat_tests)),
       c.loop-low.invariant.3,
     )
 
@@ -32,8 +31,9 @@ loop-low-preserved g c =
       omega arith,
       c.loop-low.invariant.2,
       (λ i d h k.
-          let late = leb-false (end (get_or xs m d)) tick (over_at xs m tick d within c.is_over.result (c.is_over.ensures ∙ ap (over_by tick) c.segment.ensures) ∙ c.if-is_over.false) in
-          omega (arith, ends_rise xs ok m i d h k)),
+          let told = told_at xs m d within in
+          let rise = ends_rise xs ok m i d h k in
+          grind (arith, nat_tests)),
     )
 
 pub returns : goal.returns

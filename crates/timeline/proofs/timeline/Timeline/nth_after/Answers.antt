@@ -1,6 +1,4 @@
-use Rattle.std.proofs.Common.{◌≡◌, ◌+◌, length, sym, ap, ◌∙◌, inl, inr, arith}
-use Rattle.std.proofs.lemmas.Bool.{cases_lt}
-use Rattle.timeline.specs.Segments.{told}
+use Rattle.std.proofs.Common.{◌+◌, arith}
 use Rattle.timeline.specs.Laws.Splits.{counts_split}
 use Rattle.timeline.specs.Laws.Tellings.{told_past}
 use Rattle.timeline.proofs.Asked.{told_after}
@@ -13,9 +11,7 @@ returns g c =
     let k = c.ended.result in
     let i = c.args.nth in
     let split = counts_split xs ok c.args.from k c.ended.ensures in
-    let same : told xs c.saturating_add.result ≡ told xs (k + i) =
-    elim (cases_lt (k + i) (length xs)) [
-      | inl l ↦ let e : c.saturating_add.result ≡ k + i = omega (arith, ok.few, c.saturating_add.ensures) in ap (told xs) e
-      | inr l ↦ told_past xs c.saturating_add.result (omega (arith, ok.few, c.saturating_add.ensures)) ∙ sym (told_past xs (k + i) l)
-    ] in
-    c.segment.ensures ∙ same ∙ sym (told_after xs c.args.from k split i)
+    let few = ok.few in
+    let here = told_past xs c.saturating_add.result in
+    let there = told_past xs (k + i) in
+    grind (arith, told_after xs c.args.from k split i)

@@ -1,8 +1,8 @@
-use Rattle.std.proofs.Common.{length, sym, refl, subst, arith}
+use Rattle.std.proofs.Common.{length, sym, refl, subst, arith, rules, tests}
 use Rattle.std.proofs.lemmas.Result.{err_from_is_err_and}
 use Rattle.timeline.specs.Addresses.{Addressing}
 use Rattle.bottom.specs.Placing.{unless, address_at}
-use Rattle.bottom.proofs.Told.{told_none, addressing}
+use Rattle.bottom.proofs.Told.{told_none, addressing, carried_on}
 use Rattle.bottom.proofs.placed.calls.PlacedAddressed.write_address.Goals as goal
 
 pub returns-in_err-segment : goal.returns-in_err-segment
@@ -13,5 +13,9 @@ returns-in_err-segment g c =
 
 pub returns : goal.returns
 returns g c =
-    let made = addressing c.args.self.now.parts (g.T.Timeline.segments c.args.self.now.below) c.args.self.now.torn _ c.args.self.now.is c.args.place c.in_ok-segment.segment c.in_ok-segment.ensures c.args.bytes.now c.args.mark.now.used c.put_address.new.bytes c.put_address.new.mark.used c.put_address.result c.put_address.ensures.put in
-    subst (λ r. Addressing (length (unless c.args.self.now.torn (g.T.Timeline.segments c.args.self.now.below))) c.args.place (address_at c.args.self.now.parts (g.T.Timeline.segments c.args.self.now.below) c.args.place) c.args.bytes.now c.args.mark.now.used c.put_address.new.bytes c.put_address.new.mark.used r) (sym c.carry.ensures) made
+    let p = c.args.self.now in
+    let xs = g.T.Timeline.segments p.below in
+    let on = carried_on c.put_address.result c.map_err.result _ c.map_err.ensures.cases (λ e d k. search (rules, tests)) in
+    let puts = rw c.from.ensures at c.put_address.ensures.put in
+    let made = addressing p.parts xs p.torn _ p.is c.args.place c.in_ok-segment.segment c.in_ok-segment.ensures c.args.bytes.now c.args.mark.now.used c.put_address.new.bytes c.put_address.new.mark.used c.put_address.result puts in
+    subst (λ r. Addressing (length (unless p.torn xs)) c.args.place (address_at p.parts xs c.args.place) c.args.bytes.now c.args.mark.now.used c.put_address.new.bytes c.put_address.new.mark.used r) (sym on) made

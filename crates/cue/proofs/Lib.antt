@@ -1,3 +1,0 @@
--- Lemmas that the proofs share.
-pub mod Calls
-pub mod Blanks

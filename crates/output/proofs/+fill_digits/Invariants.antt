@@ -1,0 +1,6 @@
+-- The front has a digit less.
+use Rattle.std.proofs.Common.{length}
+use Rattle.output.proofs.+fill_digits.Given as goal
+
+abbrev pub decreases-fill_digits : goal.decreases-fill_digits
+decreases-fill_digits l = length l.to.now

@@ -1,0 +1,8 @@
+use Rattle.std.proofs.Common.{arith}
+use Rattle.tree.proofs.Finds.{children_behind}
+use Rattle.tree.proofs.Tree.children.Goals as goal
+
+pub returns : goal.returns
+returns c =
+    let t = c.args.self.now in
+    children_behind t.manifest.now t.elements.now c.args.row c.args.name.now c.saturating_add.result (omega (arith, c.saturating_add.ensures))

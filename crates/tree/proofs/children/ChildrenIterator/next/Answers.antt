@@ -1,0 +1,38 @@
+use Rattle.std.proofs.Common.{◌≡◌, ℕ, ◌+◌, true, false, [], ◌∷◌, length, Some, MatchOption, sym, ap, ◌∙◌, arith, rules, tests}
+use Rattle.std.proofs.lemmas.Iterator.{first_from_Range}
+use Rattle.std.proofs.lemmas.Option.{MatchOption-at_none, MatchOption-at_some}
+use Rattle.tree.specs.Questions.{rows_from}
+use Rattle.tree.specs.Trees.{is_child_in}
+use Rattle.tree.proofs.Finds.{rows_found}
+use Rattle.tree.proofs.children.ChildrenIterator.next.Goals as goal
+use Rattle.tree.proofs.children.ChildrenIterator.next.Goals.{After-find}
+
+-- the row that is found is the first that was left, and none is found where none was
+found : (c : After-find) →
+    let p = is_child_in c.self.inside.tree c.self.inside.parent c.self.inside.name.now in
+    let n = length c.self.inside.tree.elements.now in
+    MatchOption c.find.result (rows_from p n c.self.inside.next ≡ []) (λ i. rows_from p n c.self.inside.next ≡ i ∷ rows_from p n (i + 1))
+found c =
+    let self = c.self.inside in
+    let p = is_child_in self.tree self.parent self.name.now in
+    let first = first_from_Range _ _ _ c.find.result (λ i. p i ≡ true) (λ i. p i ≡ false) c.find.ensures.ran (λ x q k. search (rules, tests)) (λ x q k. search (rules, tests)) in
+    rows_found p (length self.tree.elements.now) self.next c.find.result first
+
+pub returns-in_err-row-clause-steps : goal.returns-in_err-row-clause-steps
+returns-in_err-row-clause-steps c =
+    let none = MatchOption-at_none _ _ c.in_err-row.was (found (goal.at.returns-in_err-row-clause-steps c).After-find) in
+    let empty = sym c.self.view_is ∙ none in
+    rw c.from_residual.ensures (empty, empty)
+
+taken : (c : After-find) (row : ℕ) → c.find.result ≡ Some row →
+    let p = is_child_in c.self.inside.tree c.self.inside.parent c.self.inside.name.now in
+    c.args.self.now ≡ row ∷ rows_from p (length c.self.inside.tree.elements.now) (row + 1)
+taken c row was = sym c.self.view_is ∙ MatchOption-at_some _ _ row was (found c)
+
+pub returns-clause-steps : goal.returns-clause-steps
+returns-clause-steps c = taken (goal.at.returns-clause-steps c).After-find c.in_ok-row.row c.in_ok-row.was
+
+pub returns-clause-goes : goal.returns-clause-goes
+returns-clause-goes c =
+    let longer = ap length (taken (goal.at.returns-clause-goes c).After-find c.in_ok-row.row c.in_ok-row.was) in
+    record { on = λ h. (tt, tt, omega arith); keeps = tt; rests = λ h. tt }
