@@ -11,7 +11,7 @@ use Rattle.tables.specs.Zero.{span}
 use Rattle.tables.specs.declared.manifest.Attribute.{Attribute}
 use Rattle.tables.specs.declared.manifest.Element.{Element}
 use Rattle.timeline.specs.declared.run.Run.{Run}
-use Rattle.cases.specs.Manifests.{sample, dynamic, endless, overlapping, abutting}
+use Rattle.cases.specs.Manifests.{sample, dynamic, untyped, audio, endless, overlapping, abutting}
 use Rattle.cases.specs.Worked.{Accepted, Rows}
 
 abbrev run : ℕ → ℕ → ℕ → Run
@@ -82,3 +82,32 @@ dynamic_attributes = record { element = 0; name = span 5 4; value = span 11 7 } 
 pub dynamic_rows : (P : List Element → List Attribute → Type 0) → P dynamic_elements dynamic_attributes → Rows dynamic P
 unfolding machine.run
 dynamic_rows P h = record { elements = dynamic_elements; attributes = dynamic_attributes; reads = refl; holds = h }
+
+abbrev pub untyped_elements : List Element
+untyped_elements = record { name = span 1 3; parent = 0; level = 1; text = span 0 0 } ∷ []
+
+abbrev pub untyped_attributes : List Attribute
+untyped_attributes = record { element = 0; name = span 5 20; value = span 27 4 } ∷ []
+
+pub untyped_rows : (P : List Element → List Attribute → Type 0) → P untyped_elements untyped_attributes → Rows untyped P
+unfolding machine.run
+untyped_rows P h = record { elements = untyped_elements; attributes = untyped_attributes; reads = refl; holds = h }
+
+abbrev pub audio_elements : List Element
+audio_elements =
+    record { name = span 1 13; parent = 0; level = 1; text = span 35 0 }
+    ∷ record { name = span 36 15; parent = 0; level = 2; text = span 102 0 }
+    ∷ record { name = span 103 15; parent = 1; level = 3; text = span 0 0 }
+    ∷ []
+
+abbrev pub audio_attributes : List Attribute
+audio_attributes =
+    record { element = 0; name = span 15 11; value = span 28 5 }
+    ∷ record { element = 1; name = span 52 8; value = span 62 1 }
+    ∷ record { element = 1; name = span 65 5; value = span 72 2 }
+    ∷ record { element = 1; name = span 76 14; value = span 92 8 }
+    ∷ []
+
+pub audio_rows : (P : List Element → List Attribute → Type 0) → P audio_elements audio_attributes → Rows audio P
+unfolding machine.run
+audio_rows P h = record { elements = audio_elements; attributes = audio_attributes; reads = refl; holds = h }

@@ -9,6 +9,14 @@ sample = codes "<MPD mediaPresentationDuration=\"PT5S\" maxSegmentDuration=\"PT2
 abbrev pub dynamic : List ℕ
 dynamic = codes "<MPD type=\"dynamic\"><Period/></MPD>"
 
+-- an MPD without a type, with a time shift buffer
+abbrev pub untyped : List ℕ
+untyped = codes "<MPD timeShiftBufferDepth=\"PT1S\"/>"
+
+-- an audio set without a language, and a template with a duration and a timeline, a broken media and a Number in its initialization
+abbrev pub audio : List ℕ
+audio = codes "<AdaptationSet contentType=\"audio\"><SegmentTemplate duration=\"1\" media=\"$x\" initialization=\"$Number$\"><SegmentTimeline/></SegmentTemplate></AdaptationSet>"
+
 -- a Period of 10,000 ticks and an S of 3,000 that repeats up to its end
 abbrev pub endless : List ℕ
 endless = codes "<MPD mediaPresentationDuration=\"PT10S\" maxSegmentDuration=\"PT3S\"><Period><AdaptationSet><SegmentTemplate timescale=\"1000\" media=\"$Number$\"><SegmentTimeline><S d=\"3000\" r=\"-1\"/></SegmentTimeline></SegmentTemplate><Representation/></AdaptationSet></Period></MPD>"

@@ -11,7 +11,7 @@ use Rattle.reader.specs.Machine.{accepted, reading}
 use Rattle.resolve.specs.Values.{Values, bottom_by, timeline_by, address_by, written_by}
 use Rattle.resolve.specs.declared.fault.ResolveFault.TheVariants.{Runs}
 use Rattle.rules.specs.Findings.{finding, findings}
-use Rattle.rules.specs.declared.rule.Rule.TheVariants.{DynamicUnanchored, NoDurationNorUpdate, NoMaxSegmentDuration}
+use Rattle.rules.specs.declared.rule.Rule.TheVariants.{DynamicUnanchored, StaticTimeShift, StaticUnbounded, NoDurationNorUpdate, NoMaxSegmentDuration, DurationAndTimeline, InitializationVaries, MediaBroken, AudioWithoutLanguage}
 use Rattle.tables.specs.declared.manifest.Attribute.{Attribute}
 use Rattle.tables.specs.declared.manifest.Element.{Element}
 use Rattle.template.specs.Reading.{stands}
@@ -19,7 +19,7 @@ use Rattle.template.specs.declared.Identifier.TheVariants.{Number}
 use Rattle.timeline.specs.Segments.{blank}
 use Rattle.timeline.specs.Theorems.{part_before, part_after}
 use Rattle.timeline.specs.declared.run.Run.{Run}
-use Rattle.cases.specs.Manifests.{sample, dynamic, endless, overlapping, abutting}
+use Rattle.cases.specs.Manifests.{sample, dynamic, untyped, audio, endless, overlapping, abutting}
 
 -- the manifest is accepted for its first Period's first Representation, with tables of 1,024 rows, and P holds of its values and runs
 pub record Accepted (m : List ℕ) (P : Values → List Run → Type 0) : Type 0 where
@@ -61,6 +61,9 @@ Worked =
     × Accepted sample (λ v runs. sought_in 5000 v runs ≡ refused NoneCovers)
     -- the dynamic manifest breaks F1, F4 and F5
     × Rows dynamic (λ es xs. findings dynamic es xs ≡ finding DynamicUnanchored 0 ∷ finding NoDurationNorUpdate 0 ∷ finding NoMaxSegmentDuration 0 ∷ [])
+    -- one without a type is static and breaks F2 to F5; the audio set breaks F9, and its template F6, F7 and F8
+    × Rows untyped (λ es xs. findings untyped es xs ≡ finding StaticTimeShift 0 ∷ finding StaticUnbounded 0 ∷ finding NoDurationNorUpdate 0 ∷ finding NoMaxSegmentDuration 0 ∷ [])
+    × Rows audio (λ es xs. findings audio es xs ≡ finding AudioWithoutLanguage 0 ∷ finding DurationAndTimeline 1 ∷ finding InitializationVaries 1 ∷ finding MediaBroken 1 ∷ [])
     -- a number with a tag
     × (expansion (codes "$Number%05d$") [] 0 42 0 ≡ codes "00042")
     × Accepted endless Four
