@@ -31,7 +31,8 @@ pub struct Listing<'m, 'r> {
 }
 
 impl Listing<'_, '_> {
-    // More places than any listing has: two counts, and a line for each place of a timeline.
+    // More places than a listing has whose findings number less than 2^32: two counts, and a line for each place of a
+    // timeline.
     pub const PLACES: u64 = u32::MAX as u64 + 3;
 }
 
