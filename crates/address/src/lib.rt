@@ -96,6 +96,7 @@ pub fn put_address(
 ) -> Result<(), ExpandFault>
     ensures put { PutsUnless (broken parts.now.template.now) bytes.old mark.old.used (address_of parts.now number time) bytes.new mark.new.used result }
     ensures begun { Begun (parts_of parts.now number time) (address_of parts.now number time) }
+    ensures only { Expands parts.now.template.now (given_of parts.now number time) }
 {
     if is_broken(parts.template) {
         return Err(ExpandFault::Broken);
@@ -161,7 +162,8 @@ fn expands_absolute(template: &[u8], values: Values) -> bool
 
 // The first bytes of the expansion, zeros behind a shorter one.
 pub fn front(template: &[u8], values: Values) -> [u8; 8]
-    ensures { result ≡ front_of (expanded template.now (given values.entry)) }
+    ensures text { result ≡ front_of (expanded template.now (given values.entry)) }
+    ensures only { Expands template.now (given values.entry) }
 {
     let mut bytes = [0u8; 8];
     let mut mark = Mark { used: 0 };

@@ -1,5 +1,13 @@
 // The lines of a list of calls.
-ghost use Rattle.cue.specs.Lines.{Bare};
+ghost use Rattle.std.specs.Prelude.{◌≡◌, not};
+ghost use Rattle.cue.specs.Lines.{in_line, Bare};
+
+// Whether the byte ends a line. A function of its own and no closure, so that its promise says which byte does.
+pub(crate) fn ends_line(byte: &u8) -> bool
+    ensures { result ≡ not (in_line byte.now) }
+{
+    *byte == b'\n'
+}
 
 // The line without the CR at its end, if there is one.
 pub(crate) fn bare(line: &[u8]) -> &[u8]

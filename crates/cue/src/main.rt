@@ -9,7 +9,7 @@ ghost use Rattle.std.specs.Prelude.{◌≤◌};
 
 use anyhow::Context;
 use head::{Call, Head, HeadFault};
-use lines::bare;
+use lines::{bare, ends_line};
 use order::{NotACall, order_of};
 use output::{Mark, Output};
 use player::{Positions, open};
@@ -87,7 +87,7 @@ fn print_calls<T: Addressed>(
     list: &[u8],
 ) -> io::Result<()> {
     let mut head = Head::new(timescale);
-    for (index, line) in list.split(|byte| *byte == b'\n').enumerate() {
+    for (index, line) in list.split(ends_line).enumerate() {
         let line = bare(line);
         match order_of(line) {
             Ok(Some(call)) => print_call(rt, timeline, &mut head, line, call)?,

@@ -71,12 +71,14 @@ fn copy(bytes: &mut [u8], mark: &mut Mark, text: &[u8]) -> Result<(), NoRoom>
         (λ _. room bytes.old mark.old.used < length text.now) }
 {
     let start = mark.used.min(bytes.len());
-    let fits = text.len().min(bytes.len() - start);
-    bytes[start..start + fits].copy_from_slice(&text[..fits]);
-    if fits < text.len() {
+    let free = bytes.len() - start;
+    // A copy for each case: of a text of one byte that fits it is then one store.
+    if free < text.len() {
+        bytes[start..].copy_from_slice(&text[..free]);
         return Err(NoRoom);
     }
-    mark.used += fits;
+    bytes[start..start + text.len()].copy_from_slice(text);
+    mark.used += text.len();
     Ok(())
 }
 

@@ -1,6 +1,5 @@
 -- The steps of a walk from Period to Period.
-use Rattle.std.proofs.Common.{◌≡◌, ℕ, suc, ◌+◌, ◌-◌, ◌<◌, ◌≤◌, List, [], ◌∷◌, length, get_or, drop, codes, Option, sym, ap, ◌∙◌, inl, inr, arith}
-use Rattle.std.proofs.lemmas.Bool.{cases_lt}
+use Rattle.std.proofs.Common.{◌≡◌, ℕ, suc, ◌+◌, ◌-◌, ◌<◌, ◌≤◌, List, [], ◌∷◌, length, get_or, drop, codes, Option, sym, ap, ◌∙◌, arith}
 use Rattle.std.proofs.lemmas.List.{drop_more, length-drop}
 use Rattle.std.specs.Option.{option_or}
 use Rattle.tables.specs.declared.manifest.Attribute.{Attribute}
@@ -37,13 +36,9 @@ module _ (m : List ℕ) (es : List Element) (xs : List Attribute) where
   pub here : (i k : ℕ) (rows rest : List ℕ) → drop i (periods m es xs) ≡ rows → rows ≡ k ∷ rest → (i < length (periods m es xs)) × (period_at m es xs i ≡ k) × (drop (i + 1) (periods m es xs) ≡ rest)
   here i k rows rest left e = drop_here (periods m es xs) i k rest (left ∙ e)
 
-  -- as many Periods as were to be passed have been passed
-  pub arrived : (position n : ℕ) (rows : List ℕ) (f : Option ℕ) → position < length (periods m es xs) → n ≤ position → Walked (position - n) rows f → (0 < n → rows ≡ []) → f ≡ following m es xs position
-  arrived position n rows f there few walked none =
-      elim (cases_lt 0 n) [
-        | inl some ↦ let past = drop-end (periods m es xs) (position - n) (walked.left ∙ none some) in absurd (omega arith)
-        | inr all ↦ let e : position - n ≡ position = omega arith in walked.before ∙ ap (following m es xs) e
-      ]
+  -- where no rows are left, there are no more Periods
+  pub past : (i : ℕ) (rows : List ℕ) → drop i (periods m es xs) ≡ rows → rows ≡ [] → length (periods m es xs) ≤ i
+  past i rows left none = drop-end (periods m es xs) i (left ∙ none)
 
   -- where the Period of the row k starts, and where the next one does if it states no start
   pub start_here : (i k : ℕ) → period_at m es xs i ≡ k → (o f s : Option ℕ) → s ≡ present duration_of (value_of m xs k (codes "start")) → f ≡ following m es xs i → o ≡ option_or s f → o ≡ start_of m es xs i

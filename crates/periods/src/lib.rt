@@ -46,12 +46,14 @@ fn start_of(tree: &Tree, position: usize) -> Option<u128>
     ensures start { result ≡ (if nat_lt position (length (on periods tree.now)) then on start_of tree.now position else None) }
     ensures within { OnSome result (position < length tree.now.elements.now) }
 {
-    let row = tree.nth_child(0, b"Period", position)?;
+    let mut left = tree.children(0, b"Period");
     let mut following = Some(0);
-    'periods: for before in tree.children(0, b"Period").take(position) {
+    'periods: for _ in 0..position {
+        let before = left.next()?;
         let start = stated(tree, before, b"start").or(following);
         following = sum(start, stated(tree, before, b"duration"));
     }
+    let row = left.next()?;
     stated(tree, row, b"start").or(following)
 }
 

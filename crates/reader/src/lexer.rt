@@ -221,7 +221,7 @@ fn dashes_with(dashes: u8, b: u8) -> u8
     if b != b'-' {
         return 0;
     }
-    dashes.saturating_add(1).min(2)
+    1 + dashes.min(1)
 }
 
 // Whether the byte ends a comment behind so many '-'.

@@ -6,12 +6,12 @@ use output::Output;
 use reader::LIMIT;
 use rules::Finding;
 use std::io;
-use std::io::{Read, Write};
+use std::io::{ErrorKind, Read, Write};
 use tables::{Attribute, Element, ManifestRows, Row, Table};
 use timeline::Run;
 
 // One byte more than a manifest may have, so that a longer one is seen to be too long.
-const INPUT: u64 = LIMIT as u64 + 1;
+const INPUT: usize = LIMIT + 1;
 
 const LINE: usize = 65_536;
 
@@ -51,8 +51,18 @@ fn print_listing(rt: &HostRuntime, manifest: &[u8]) -> io::Result<()> {
     Ok(())
 }
 
+// Fills the buffer from standard input, and answers how many bytes there were.
+fn fill(rt: &HostRuntime, buffer: &mut [u8; INPUT]) -> io::Result<usize> {
+    let mut input = rt.stdin().take(INPUT as u64);
+    match input.read_exact(buffer) {
+        Err(error) if error.kind() != ErrorKind::UnexpectedEof => Err(error),
+        _ => Ok(INPUT.saturating_sub(input.limit() as usize)),
+    }
+}
+
 fn main(rt: HostRuntime) -> io::Result<()> {
-    let mut manifest = Vec::new(rt.alloc());
-    rt.stdin().take(INPUT).read_to_end(&mut manifest)?;
-    print_listing(&rt, manifest.as_slice())
+    // An array and no vector, so that the input takes no heap.
+    let mut buffer = [0u8; INPUT];
+    let end = fill(&rt, &mut buffer)?;
+    print_listing(&rt, &buffer[..end.min(INPUT)])
 }

@@ -1,9 +1,9 @@
 -- Whole templates, piece by piece.
-use Rattle.std.proofs.Common.{◌≡◌, ℕ, zero, suc, pred, ◌-◌, ◌≤◌, Bool, true, false, not, eqb, List, [], ◌∷◌, ◌++◌, length, take, drop, Some, None, Decides, Option, sym, refl, ap, ◌∙◌, subst, ⊎_elim, append_assoc, append-nil, arith, eq-eqb, eqb-true, ne_eqb}
+use Rattle.std.proofs.Common.{◌≡◌, ℕ, zero, suc, pred, ◌+◌, ◌-◌, Bool, true, false, not, eqb, List, [], ◌∷◌, ◌++◌, length, take, drop, Some, None, Decides, Option, sym, refl, ap, ◌∙◌, subst, ⊎_elim, append_assoc, append-nil, arith, eq-eqb, eqb-true, ne_eqb}
 use borrow.Author.Tests.{clash}
 use Rattle.std.specs.List.{list_any}
 use Rattle.std.proofs.lemmas.List.{take_rest}
-use Rattle.std.proofs.lemmas.List.Prefix.{front_rest, front_fits}
+use Rattle.std.proofs.lemmas.List.Prefix.{front_rest}
 use Rattle.std.proofs.lemmas.Bool.{or_cases, or_left, or_right}
 use Rattle.std.proofs.lemmas.Bool.Decides.{Decides-at}
 use Rattle.template.specs.declared.Identifier.{Identifier}
@@ -11,9 +11,10 @@ use Rattle.template.specs.declared.Identifier.TheVariants.{RepresentationId, Num
 use Rattle.template.specs.declared.Piece.{Piece}
 use Rattle.template.specs.declared.Piece.TheVariants.{Byte, Dollar, Value}
 use Rattle.template.specs.Pieces.{name_of, tag_text, text_of, texts, Allowed, AllAllowed}
-use Rattle.template.specs.Reading.{measured, next, onward, walk, pieces, broken, place, is_value_of, stands}
+use Rattle.std.specs.Result.{result_ok}
+use Rattle.template.specs.Reading.{measured, next, AtPlace, ending, next_at, onward, walk, pieces, broken, place, is_value_of, stands}
 use Rattle.template.specs.Laws.{Whole, Before}
-use Rattle.template.proofs.Measured.{measured_some}
+use Rattle.template.proofs.Measured.{no_some, measured_some}
 use Rattle.template.proofs.Sound.{next_front}
 use Rattle.template.proofs.Complete.{next_complete}
 
@@ -168,11 +169,6 @@ module _ (t : List ℕ) (p : Piece) (n : ℕ) (found : Some (p, n) ≡ measured 
   begins_it : (next t ≡ Some p) × (n ≡ length (text_of p))
   begins_it = measured_some text_of (next t) p n found
 
-  pub piece_fits : n ≤ length t
-  piece_fits =
-      let f = next_front t p begins_it.0 in
-      omega (arith, begins_it.1, front_fits t (text_of p) f.1.0 f.1.1)
-
   begun : (t ≡ text_of p ++ drop n t) × Allowed p
   begun =
       let f = next_front t p begins_it.0 in
@@ -192,3 +188,34 @@ module _ (t : List ℕ) (r : Bool) where
 
   pub stands_tells : (i : Identifier) → r ≡ stands i t → record { value : r ≡ stands i t; before : Decides r (Before i t) }
   stands_tells i e = record { value = e; before = Decides-at r (stands i t) e (stands_decides i t) }
+
+-- what an answer for the place 0 says of the pieces of a text
+module _ (t : List ℕ) (r : AtPlace) (answered : r ≡ next_at 0 (drop 0 t)) where
+  pub first_found : (p : Piece) (n : ℕ) → Some (Some (p, n)) ≡ result_ok r → Some (p, n) ≡ measured text_of (next t)
+  first_found p n there = go t r answered there
+    where
+      of_next : (o : Option Piece) (q : AtPlace) → q ≡ ending 0 o → Some (Some (p, n)) ≡ result_ok q → Some (p, n) ≡ measured text_of o
+      of_next None q e f = no_some (Some (p, n)) (sym (f ∙ ap result_ok e))
+      of_next (Some x) q e f =
+          let s : ◌≡◌ {A = Option (Option (Piece × ℕ))} (Some (Some (p, n))) (Some (Some (x, 0 + length (text_of x)))) = f ∙ ap result_ok e in
+          let k : 0 + length (text_of x) ≡ length (text_of x) = omega arith in
+          let l : ◌≡◌ {A = Option (Piece × ℕ)} (Some (p, n)) (Some (x, 0 + length (text_of x))) = cc in
+          l ∙ ap (λ m. Some (x, m)) k
+
+      go : (u : List ℕ) (q : AtPlace) → q ≡ next_at 0 u → Some (Some (p, n)) ≡ result_ok q → Some (p, n) ≡ measured text_of (next u)
+      go [] q e f =
+          let s : ◌≡◌ {A = Option (Option (Piece × ℕ))} (Some (Some (p, n))) (Some None) = f ∙ ap result_ok e in
+          no_some {A = Piece × ℕ} (p, n) cc
+      go (b ∷ u) q e f = of_next (next (b ∷ u)) q e f
+
+  pub none_found : None ≡ result_ok r → pieces t ≡ []
+  none_found none = go t r answered none
+    where
+      of_next : (u : List ℕ) (o : Option Piece) (q : AtPlace) → q ≡ ending 0 o → None ≡ result_ok q →
+          (onward o (λ k. walk k u)).0 ≡ []
+      of_next u None q e f = refl
+      of_next u (Some x) q e f = no_some (Some (x, 0 + length (text_of x))) (f ∙ ap result_ok e)
+
+      go : (u : List ℕ) (q : AtPlace) → q ≡ next_at 0 u → None ≡ result_ok q → pieces u ≡ []
+      go [] q e f = refl
+      go (b ∷ u) q e f = of_next u (next (b ∷ u)) q e f

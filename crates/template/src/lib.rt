@@ -64,7 +64,7 @@ impl<'a> Pieces<'a> {
         ensures steps { YieldsFirst pieces_left self.old result self.new }
         ensures broken { left_broken self.new ≡ left_broken self.old }
     {
-        let (piece, long) = first_piece(self.rest)?;
+        let (piece, long) = piece_at(self.rest, 0).ok()??;
         self.rest = &self.rest[long..];
         Some(piece)
     }

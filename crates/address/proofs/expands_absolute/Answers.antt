@@ -8,4 +8,4 @@ use Rattle.address.proofs.expands_absolute.Goals as goal
 pub returns : goal.returns
 returns c =
     let text = expanded c.args.template.now (given c.args.values) in
-    c.is_absolute.ensures ∙ ap absolute c.front.ensures ∙ absolute_front text
+    c.is_absolute.ensures ∙ ap absolute c.front.ensures.text ∙ absolute_front text

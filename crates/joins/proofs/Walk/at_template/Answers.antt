@@ -12,6 +12,6 @@ returns c =
     let p = c.args.parts.now in
     let text = expanded p.template.now (given c.values.result) in
     let is : text ≡ expanded p.template.now (given_of p 0 0) = ap (expanded p.template.now) c.values.ensures in
-    let anew : c.is_absolute.result ≡ absolute text = c.is_absolute.ensures ∙ ap absolute c.front-front.ensures ∙ absolute_front text in
-    let slash : c.is_rooted.result ≡ rooted text = c.is_rooted.ensures ∙ ap rooted c.front-front.ensures ∙ rooted_front text in
+    let anew : c.is_absolute.result ≡ absolute text = c.is_absolute.ensures ∙ ap absolute c.front-front.ensures.text ∙ absolute_front text in
+    let slash : c.is_rooted.result ≡ rooted text = c.is_rooted.ensures ∙ ap rooted c.front-front.ensures.text ∙ rooted_front text in
     cc
