@@ -51,8 +51,8 @@ fn print_listing(rt: &HostRuntime, manifest: &[u8]) -> io::Result<()> {
     Ok(())
 }
 
-// Fills the buffer from standard input, and answers how many bytes there were.
-fn fill(rt: &HostRuntime, buffer: &mut [u8; INPUT]) -> io::Result<usize> {
+// Reads standard input into the buffer, as far as it reaches, and answers how many bytes there were.
+fn read_input(rt: &HostRuntime, buffer: &mut [u8; INPUT]) -> io::Result<usize> {
     let mut input = rt.stdin().take(INPUT as u64);
     match input.read_exact(buffer) {
         Err(error) if error.kind() != ErrorKind::UnexpectedEof => Err(error),
@@ -63,6 +63,6 @@ fn fill(rt: &HostRuntime, buffer: &mut [u8; INPUT]) -> io::Result<usize> {
 fn main(rt: HostRuntime) -> io::Result<()> {
     // An array and no vector, so that the input takes no heap.
     let mut buffer = [0u8; INPUT];
-    let end = fill(&rt, &mut buffer)?;
+    let end = read_input(&rt, &mut buffer)?;
     print_listing(&rt, &buffer[..end.min(INPUT)])
 }

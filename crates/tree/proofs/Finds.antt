@@ -47,6 +47,14 @@ module _ (p : ℕ → Bool) (n : ℕ) where
   rows_first zero k i e le lt passes fails = let s : k ≡ i = omega arith in rw s (rows_here p n i lt (sym passes))
   rows_first (suc d) k i e le lt passes fails = rows_more p n k (omega arith) (sym (fails k (omega arith) (omega arith))) ∙ rows_first d (k + 1) i (omega arith) (omega arith) lt passes (λ j from below. fails j (omega arith) below)
 
+  -- behind the last row it is the same from where on
+  pub rows_capped : (k l : ℕ) → k ≤ l → (k < l → n ≤ k) → rows_from p n l ≡ rows_from p n k
+  rows_capped k l le far =
+      ⊎_elim
+      (λ lt. rows_end p n l (omega (arith, far lt)) ∙ sym (rows_end p n k (far lt)))
+      (λ more. let same : l ≡ k = omega (arith, le, more) in ap (rows_from p n) same)
+      (cases_lt k l)
+
   -- what a search from k on finds is the first of the rows that are left
   pub rows_found : (k : ℕ) (found : Option ℕ) → MatchOption found ((i : ℕ) → k ≤ i → i < n → p i ≡ false) (λ i. (k ≤ i) × (i < n) × (p i ≡ true) × ((j : ℕ) → k ≤ j → j < i → p j ≡ false)) → MatchOption found (rows_from p n k ≡ []) (λ i. rows_from p n k ≡ i ∷ rows_from p n (i + 1))
   rows_found k None fails = rows_none (n - k) k refl fails

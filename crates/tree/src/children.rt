@@ -1,5 +1,5 @@
 // The children of an element, one after the other.
-ghost use Rattle.std.specs.Prelude.{◌≡◌, ℕ, List, length};
+ghost use Rattle.std.specs.Prelude.{◌≡◌, ℕ, ◌+◌, List, length};
 ghost use Rattle.std.specs.Iterator.{YieldsFirst, item_count};
 ghost use Rattle.tree.specs.Questions.{rows_from};
 ghost use Rattle.tree.specs.Trees.{is_child_in, children_in};
@@ -13,7 +13,8 @@ pub struct Children<'n, 'm, 'r> {
     tree: Tree<'m, 'r>,
     parent: usize,
     name: &'n [u8],
-    next: usize,
+    // The row that was told last, at first the parent's.
+    last: usize,
 }
 
 impl<'m, 'r> Tree<'m, 'r> {
@@ -25,7 +26,7 @@ impl<'m, 'r> Tree<'m, 'r> {
             tree: *self,
             parent: row,
             name,
-            next: row.saturating_add(1),
+            last: row,
         }
     }
 }
@@ -34,7 +35,7 @@ impl<'m, 'r> Tree<'m, 'r> {
 impl<'n, 'm, 'r> Model for Children<'n, 'm, 'r> {
     ghost Value = { List ℕ };
 
-    ghost view = { λ c. rows_from (is_child_in c.tree c.parent c.name.now) (length c.tree.elements.now) c.next };
+    ghost view = { λ c. rows_from (is_child_in c.tree c.parent c.name.now) (length c.tree.elements.now) (c.last + 1) };
 }
 
 impl<'n, 'm, 'r> Iterator for Children<'n, 'm, 'r> {
@@ -45,9 +46,9 @@ impl<'n, 'm, 'r> Iterator for Children<'n, 'm, 'r> {
     ghost remaining = { item_count (λ rows. rows) };
 
     fn next(&mut self) -> Option<usize> {
-        let mut left = self.next..self.tree.elements.len();
+        let mut left = self.last.saturating_add(1)..self.tree.elements.len();
         let row = left.find(|row| self.tree.is_child(*row, self.parent, self.name))?;
-        self.next = row + 1;
+        self.last = row;
         Some(row)
     }
 }

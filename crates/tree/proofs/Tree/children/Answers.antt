@@ -5,4 +5,4 @@ use Rattle.tree.proofs.Tree.children.Goals as goal
 pub returns : goal.returns
 returns c =
     let t = c.args.self.now in
-    children_behind t.manifest.now t.elements.now c.args.row c.args.name.now c.saturating_add.result (omega (arith, c.saturating_add.ensures))
+    children_behind t.manifest.now t.elements.now c.args.row c.args.name.now _ (omega arith)

@@ -3,7 +3,7 @@ use Rattle.std.proofs.lemmas.Iterator.{first_from_Range}
 use Rattle.std.proofs.lemmas.Option.{MatchOption-at_none, MatchOption-at_some}
 use Rattle.tree.specs.Questions.{rows_from}
 use Rattle.tree.specs.Trees.{is_child_in}
-use Rattle.tree.proofs.Finds.{rows_found}
+use Rattle.tree.proofs.Finds.{rows_found, rows_capped}
 use Rattle.tree.proofs.children.ChildrenIterator.next.Goals as goal
 use Rattle.tree.proofs.children.ChildrenIterator.next.Goals.{After-find}
 
@@ -11,12 +11,15 @@ use Rattle.tree.proofs.children.ChildrenIterator.next.Goals.{After-find}
 found : (c : After-find) →
     let p = is_child_in c.self.inside.tree c.self.inside.parent c.self.inside.name.now in
     let n = length c.self.inside.tree.elements.now in
-    MatchOption c.find.result (rows_from p n c.self.inside.next ≡ []) (λ i. rows_from p n c.self.inside.next ≡ i ∷ rows_from p n (i + 1))
+    MatchOption c.find.result (rows_from p n (c.self.inside.last + 1) ≡ []) (λ i. rows_from p n (c.self.inside.last + 1) ≡ i ∷ rows_from p n (i + 1))
 found c =
     let self = c.self.inside in
     let p = is_child_in self.tree self.parent self.name.now in
     let first = first_from_Range _ _ _ c.find.result (λ i. p i ≡ true) (λ i. p i ≡ false) c.find.ensures.ran (λ x q k. search (rules, tests)) (λ x q k. search (rules, tests)) in
-    rows_found p (length self.tree.elements.now) self.next c.find.result first
+    let n = length self.tree.elements.now in
+    let k = c.saturating_add.result in
+    let same : rows_from p n (self.last + 1) ≡ rows_from p n k = rows_capped p n k (self.last + 1) (omega (arith, c.saturating_add.ensures)) (λ lt. omega (arith, lt, c.saturating_add.ensures, c.self.told2)) in
+    rw same (rows_found p n k c.find.result first)
 
 pub returns-in_err-row-clause-steps : goal.returns-in_err-row-clause-steps
 returns-in_err-row-clause-steps c =
