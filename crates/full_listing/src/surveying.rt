@@ -6,18 +6,37 @@ ghost use Rattle.reader.specs.Outcomes.{Tabled};
 ghost use Rattle.resolve.specs.Values.{values_of, AddsUp};
 ghost use Rattle.rules.specs.Findings.{no_finding};
 ghost use Rattle.timeline.specs.Runs.{no_run};
-ghost use Rattle.listing.specs.Surveys.{listed_into};
+ghost use Rattle.listing.specs.Surveys.{surveyed_into as checked_into, listed_into};
 ghost use Rattle.full_listing.specs.Lines.{lines_of};
 ghost use Rattle.full_listing.specs.Surveys.{surveyed_into, runs_into, listing_into, meaning_of};
 
 use crate::fault::ListFault;
 use chosen::Positions;
 use presentation::Plan;
+use reader::read;
 use resolve::resolve;
-use rules::Finding;
+use rules::{Finding, check};
 use tables::{ManifestRows, Table};
 use timeline::Run;
 use tree::Tree;
+
+// Reads the manifest into rows and lists which rules it breaks where. After a refusal by reading the
+// tables hold no rows; after one by check the findings hold none. It is `listing::survey` once more, so
+// that the tree that is checked stands here, where a must-fail edit can spoil it.
+fn examine(
+    manifest: &[u8],
+    rows: &mut ManifestRows,
+    findings: &mut Table<Finding>,
+) -> Result<(), listing::ListFault>
+    ensures answer { result ≡ checked_into manifest.now rows.old findings.old }
+    ensures tables { Tabled manifest.now rows.old rows.new }
+    ensures findings { Filled no_finding findings.old (listed_into manifest.now rows.old findings.old) findings.new }
+{
+    findings.clear();
+    read(manifest, rows)?;
+    check(&Tree::of(manifest, rows), findings)?;
+    Ok(())
+}
 
 // Reads and checks the manifest and, if no rule is broken, resolves its first Period's first
 // Representation. What the tables held before is given up. Without findings and refusals there is a
@@ -37,7 +56,7 @@ pub fn survey<'m>(
     ensures runs { Filled no_run runs.old (runs_into manifest.now rows.old findings.old runs.old) runs.new }
 {
     runs.clear();
-    listing::survey(manifest, rows, findings)?;
+    examine(manifest, rows, findings)?;
     if findings.len() > 0 {
         return Ok(None);
     }
