@@ -1,8 +1,11 @@
-use Rattle.std.proofs.Common.{◌≡◌, ℕ, ◌+◌, true, false, [], ◌∷◌, length, Some, MatchOption, sym, ap, ◌∙◌, arith, rules, tests}
+use Rattle.std.proofs.Common.{◌≡◌, ℕ, ◌+◌, true, false, List, [], ◌∷◌, length, Some, MatchOption, sym, ap, ◌∙◌, arith, rules, tests}
+use Rattle.std.specs.Iterator.{MakesProgress, item_count}
+use Rattle.std.specs.declared.iter.Iterator.{can_next-default}
 use Rattle.std.proofs.lemmas.Iterator.{first_from_Range}
 use Rattle.std.proofs.lemmas.Option.{MatchOption-at_none, MatchOption-at_some}
 use Rattle.tree.specs.Questions.{rows_from}
 use Rattle.tree.specs.Trees.{is_child_in}
+use Rattle.tree.specs.declared.children.Children.{Children}
 use Rattle.tree.proofs.Finds.{rows_found, rows_capped}
 use Rattle.tree.proofs.children.ChildrenIterator.next.Goals as goal
 use Rattle.tree.proofs.children.ChildrenIterator.next.Goals.{After-find}
@@ -27,15 +30,22 @@ returns-in_err-row-clause-steps c =
     let empty = sym c.self.view_is ∙ none in
     rw c.from_residual.ensures (empty, empty)
 
-taken : (c : After-find) (row : ℕ) → c.find.result ≡ Some row →
+-- the row that is told, and those behind it
+taken : (c : After-find) (row next : ℕ) → c.find.result ≡ Some row → row + 1 ≡ next →
     let p = is_child_in c.self.inside.tree c.self.inside.parent c.self.inside.name.now in
-    c.args.self.now ≡ row ∷ rows_from p (length c.self.inside.tree.elements.now) (row + 1)
-taken c row was = sym c.self.view_is ∙ MatchOption-at_some _ _ row was (found c)
+    c.args.self.now ≡ row ∷ rows_from p (length c.self.inside.tree.elements.now) next
+taken c row next was behind =
+    let p = is_child_in c.self.inside.tree c.self.inside.parent c.self.inside.name.now in
+    sym c.self.view_is ∙ MatchOption-at_some _ _ row was (found c) ∙ ap (λ k. row ∷ rows_from p (length c.self.inside.tree.elements.now) k) behind
+
+-- one row is told, and fewer are left
+fewer : {rows rest : List ℕ} {row : ℕ} → rows ≡ row ∷ rest → MakesProgress (can_next-default Children ℕ) (item_count (λ l. l)) rows (Some row) rest
+fewer told =
+    let longer = ap length told in
+    record { on = λ h. (tt, tt, omega arith); keeps = tt; rests = λ h. tt }
 
 pub returns-clause-steps : goal.returns-clause-steps
-returns-clause-steps c = taken (goal.at.returns-clause-steps c).After-find c.in_ok-row.row c.in_ok-row.was
+returns-clause-steps c = taken (goal.at.returns-clause-steps c).After-find c.in_ok-row.row _ c.in_ok-row.was (omega arith)
 
 pub returns-clause-goes : goal.returns-clause-goes
-returns-clause-goes c =
-    let longer = ap length (taken (goal.at.returns-clause-goes c).After-find c.in_ok-row.row c.in_ok-row.was) in
-    record { on = λ h. (tt, tt, omega arith); keeps = tt; rests = λ h. tt }
+returns-clause-goes c = fewer (taken (goal.at.returns-clause-goes c).After-find c.in_ok-row.row _ c.in_ok-row.was (omega arith))
